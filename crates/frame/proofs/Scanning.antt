@@ -1,0 +1,222 @@
+-- Scanning: behind more bytes, in pieces, in order, with each byte counted once, and with no frame swallowed.
+use mathlib.Core.Path.{_≡_, refl, sym, ap, subst, _∙_}
+use mathlib.Core.Logic.{_⊎_, inl, inr, ⊎-elim}
+use mathlib.Core.List.{List, [], _∷_, _++_, append-nil}
+use Prim.Native.Nat.{ℕ, zero, suc, _+_, _-_, _*_, _≤_, _<_}
+use native.Mathlib.Nat.{add-zero, zero-add, add-suc, suc-add, not-suc-le-zero, le-of-suc-le-suc}
+use native.Mathlib.Omega.{arith}
+use lib.ListN.{length, take, drop}
+use Rattle.std.specs.declared.option.Option.{Option}
+use Rattle.std.specs.declared.option.Option.the-variants.{Some, None}
+use Rattle.std.proofs.shelf.Lists.{drop-drop, drop-at}
+use Rattle.std.proofs.shelf.Tests.{cases-lt}
+use Rattle.frame.specs.Frames.{preamble₁, maxPayload, Message, tailSize, sizeOf, bodyOf, frameBytes, Standing, noise, undecided, intact, standing}
+use Rattle.frame.specs.Scanning.{Hearing, Scanned, withNoise, withHeard, waiting, scannedAt, scanFrom, scan, both, InPieces, Among, Inside, NoneSwallowed, InOrder, sizes, Accounted, HeardAs}
+use Rattle.frame.proofs.Frames.{noise-more, intact-more, intact-fits, undecided-short, never-next, frame-length, frame-is-intact}
+
+-- Scanning at a byte that is decided
+
+pub scan-noise : (at : ℕ) (bs : List ℕ) → standing bs ≡ noise → scanFrom at 0 bs ≡ withNoise (scanFrom (suc at) 0 (drop 1 bs))
+unfolding scanFrom scannedAt standing
+scan-noise at [] e = let z : _≡_ {A = ℕ} 0 1 = cc in absurd (omega arith)
+scan-noise at (x ∷ xs) e = ap (λ p. scannedAt p at (x ∷ xs) (λ k. scanFrom (suc at) k xs)) e
+
+pub scan-undecided : (at : ℕ) (bs : List ℕ) → standing bs ≡ undecided → scanFrom at 0 bs ≡ waiting at bs
+unfolding scanFrom scannedAt standing
+scan-undecided at [] e = refl
+scan-undecided at (x ∷ xs) e = ap (λ p. scannedAt p at (x ∷ xs) (λ k. scanFrom (suc at) k xs)) e
+
+-- what belongs to a heard frame is passed over
+pub scan-inside : (at k : ℕ) (bs : List ℕ) → k ≤ length bs → scanFrom at k bs ≡ scanFrom (at + k) 0 (drop k bs)
+unfolding scanFrom
+scan-inside at zero bs h = rw add-zero refl
+scan-inside at (suc k) [] h = absurd (not-suc-le-zero h)
+scan-inside at (suc k) (x ∷ xs) h =
+    scan-inside (suc at) k xs (le-of-suc-le-suc h) ∙ ap (λ n. scanFrom n 0 (drop k xs)) (suc-add at k ∙ sym (add-suc at k))
+
+pub scan-intact : (at : ℕ) (bs : List ℕ) (m : Message) → standing bs ≡ intact m
+    → scanFrom at 0 bs ≡ withHeard (record { place = at; message = m }) (scanFrom (at + sizeOf m) 0 (drop (sizeOf m) bs))
+unfolding scanFrom scannedAt standing
+scan-intact at [] m e = let z : _≡_ {A = ℕ} 0 1 = cc in absurd (omega arith)
+scan-intact at (x ∷ xs) m e =
+    let fits : tailSize m ≤ length xs = le-of-suc-le-suc (intact-fits (x ∷ xs) m e) in
+    let on = scan-inside (suc at) (tailSize m) xs fits ∙ ap (λ n. scanFrom n 0 (drop (tailSize m) xs)) (suc-add at (tailSize m) ∙ sym (add-suc at (tailSize m))) in
+    ap (λ p. scannedAt p at (x ∷ xs) (λ k. scanFrom (suc at) k xs)) e ∙ ap (withHeard (record { place = at; message = m })) on
+
+-- In pieces
+
+-- a scan with another count of noise
+noted : Scanned → ℕ → Scanned
+noted s n = record { heard = s .heard; noise = n; rest = s .rest; rest-place = s .rest-place }
+
+pub both-waiting : (at : ℕ) (bs : List ℕ) (s : Scanned) → s ≡ both (waiting at bs) s
+unfolding noted
+both-waiting at bs s = ap (noted s) (sym (zero-add (s .noise)))
+
+pub both-noise : (s t : Scanned) → withNoise (both s t) ≡ both (withNoise s) t
+unfolding noted
+both-noise s t = ap (noted (both s t)) (sym (suc-add (s .noise) (t .noise)))
+
+abbrev Pieces : ℕ → ℕ → List ℕ → List ℕ → Type 0
+Pieces at k bs more = k ≤ length bs → scanFrom at k (bs ++ more) ≡ both (scanFrom at k bs) (scanFrom (scanFrom at k bs .rest-place) 0 (scanFrom at k bs .rest ++ more))
+
+pieces : (at k : ℕ) (bs more : List ℕ) → Pieces at k bs more
+unfolding scanFrom scannedAt
+pieces at zero [] more = λ le. both-waiting at [] (scanFrom at 0 more)
+pieces at (suc k) [] more = λ le. absurd (not-suc-le-zero le)
+pieces at (suc k) (x ∷ xs) more = λ le. pieces (suc at) k xs more (le-of-suc-le-suc le)
+pieces at zero (x ∷ xs) more = go (standing (x ∷ xs)) refl (λ k. pieces (suc at) k xs more)
+  where
+    go : (p : Standing) → standing (x ∷ xs) ≡ p → ((k : ℕ) → Pieces (suc at) k xs more) → 0 ≤ suc (length xs)
+        → scannedAt (standing (x ∷ xs ++ more)) at (x ∷ xs ++ more) (λ k. scanFrom (suc at) k (xs ++ more))
+        ≡ (let s : Scanned = scannedAt p at (x ∷ xs) (λ k. scanFrom (suc at) k xs) in both s (scanFrom (s .rest-place) 0 (s .rest ++ more)))
+    go noise e ih le =
+        ap (λ p. scannedAt p at (x ∷ xs ++ more) (λ k. scanFrom (suc at) k (xs ++ more))) (noise-more (x ∷ xs) more e)
+        ∙ ap withNoise (ih 0 (omega arith)) ∙ both-noise (scanFrom (suc at) 0 xs) _
+    go undecided e ih le = both-waiting at (x ∷ xs) (scanFrom at 0 (x ∷ xs ++ more))
+    go (intact m) e ih le =
+        ap (λ p. scannedAt p at (x ∷ xs ++ more) (λ k. scanFrom (suc at) k (xs ++ more))) (intact-more (x ∷ xs) more m e)
+        ∙ ap (withHeard (record { place = at; message = m })) (ih (tailSize m) (le-of-suc-le-suc (intact-fits (x ∷ xs) m e)))
+
+pub in-pieces : (bs : List ℕ) → InPieces bs
+in-pieces bs more = pieces 0 0 bs more (omega arith)
+
+-- In order
+
+in-order-from : (bs : List ℕ) (l n : ℕ) (hs : List Hearing) → l ≤ n → InOrder bs n hs → InOrder bs l hs
+unfolding InOrder
+in-order-from bs l n [] le o = o
+in-order-from bs l n (h ∷ hs) le o = (omega (arith, o .0), o .1, o .2)
+
+-- the next byte of a list
+drop-next : (n x : ℕ) (xs bs : List ℕ) → drop n bs ≡ x ∷ xs → drop (suc n) bs ≡ xs
+drop-next n x xs bs e =
+    let same : suc n ≡ n + 1 = omega arith in
+    rw same (sym (drop-drop 1 n bs) ∙ ap (drop 1) e)
+
+ordered : (bs : List ℕ) (at k : ℕ) (xs : List ℕ) → drop at bs ≡ xs → InOrder bs (at + k) (scanFrom at k xs .heard)
+unfolding scanFrom scannedAt InOrder
+ordered bs at k [] = λ e. tt
+ordered bs at (suc k) (x ∷ xs) =
+    λ e. let same : suc at + k ≡ at + suc k = omega arith in
+    subst (λ (n : ℕ). InOrder bs n (scanFrom (suc at) k xs .heard)) same (ordered bs (suc at) k xs (drop-next at x xs bs e))
+ordered bs at zero (x ∷ xs) = go (standing (x ∷ xs)) refl (λ k. ordered bs (suc at) k xs)
+  where
+    go : (p : Standing) → standing (x ∷ xs) ≡ p → ((k : ℕ) → drop (suc at) bs ≡ xs → InOrder bs (suc at + k) (scanFrom (suc at) k xs .heard)) → drop at bs ≡ x ∷ xs
+        → InOrder bs (at + 0) (scannedAt p at (x ∷ xs) (λ k. scanFrom (suc at) k xs) .heard)
+    go noise s ih e = in-order-from bs (at + 0) (suc at + 0) _ (omega arith) (ih 0 (drop-next at x xs bs e))
+    go undecided s ih e = tt
+    go (intact m) s ih e =
+        let same : suc at + tailSize m ≡ at + sizeOf m = omega arith in
+        (omega arith, ap standing e ∙ s, subst (λ (n : ℕ). InOrder bs n (scanFrom (suc at) (tailSize m) xs .heard)) same (ih (tailSize m) (drop-next at x xs bs e)))
+
+pub in-order : (bs : List ℕ) → InOrder bs 0 (scan bs .heard)
+in-order bs = ordered bs 0 0 bs refl
+
+-- Each byte is counted once
+
+abbrev Counted : ℕ → ℕ → List ℕ → Type 0
+Counted at k bs =
+    k ≤ length bs → (k + (scanFrom at k bs .noise + sizes (scanFrom at k bs .heard) + length (scanFrom at k bs .rest)) ≡ length bs) × (scanFrom at k bs .rest-place + length (scanFrom at k bs .rest) ≡ at + length bs)
+
+counted : (at k : ℕ) (bs : List ℕ) → Counted at k bs
+unfolding scanFrom scannedAt sizes
+counted at k [] = λ le. (omega arith, refl)
+counted at (suc k) (x ∷ xs) = λ le. let c = counted (suc at) k xs (le-of-suc-le-suc le) in (omega arith, omega arith)
+counted at zero (x ∷ xs) = go (standing (x ∷ xs)) refl (λ k. counted (suc at) k xs)
+  where
+    go : (p : Standing) → standing (x ∷ xs) ≡ p → ((k : ℕ) → Counted (suc at) k xs) → 0 ≤ suc (length xs)
+        → (let s : Scanned = scannedAt p at (x ∷ xs) (λ k. scanFrom (suc at) k xs) in
+        (0 + (s .noise + sizes (s .heard) + length (s .rest)) ≡ suc (length xs)) × (s .rest-place + length (s .rest) ≡ at + suc (length xs)))
+    go noise e ih le = let c = ih 0 (omega arith) in (omega arith, omega arith)
+    go undecided e ih le = (omega arith, refl)
+    go (intact m) e ih le = let c = ih (tailSize m) (le-of-suc-le-suc (intact-fits (x ∷ xs) m e)) in (omega arith, omega arith)
+
+abbrev Ends : List ℕ → Scanned → Type 0
+Ends bs s = s .rest ≡ drop (s .rest-place) bs
+
+ends : (bs : List ℕ) (at k : ℕ) (xs : List ℕ) → drop at bs ≡ xs → Ends bs (scanFrom at k xs)
+unfolding scanFrom scannedAt
+ends bs at k [] = λ e. sym e
+ends bs at (suc k) (x ∷ xs) = λ e. ends bs (suc at) k xs (drop-next at x xs bs e)
+ends bs at zero (x ∷ xs) = go (standing (x ∷ xs)) (λ k. ends bs (suc at) k xs)
+  where
+    go : (p : Standing) → ((k : ℕ) → drop (suc at) bs ≡ xs → Ends bs (scanFrom (suc at) k xs)) → drop at bs ≡ x ∷ xs
+        → Ends bs (scannedAt p at (x ∷ xs) (λ k. scanFrom (suc at) k xs))
+    go noise ih e = ih 0 (drop-next at x xs bs e)
+    go undecided ih e = sym e
+    go (intact m) ih e = ih (tailSize m) (drop-next at x xs bs e)
+
+pub accounted : (bs : List ℕ) → Accounted bs
+accounted bs = let c = counted 0 0 bs (omega arith) in (omega arith, ends bs 0 0 bs refl)
+
+-- Nothing is swallowed
+
+abbrev Outside : ℕ → List Hearing → Type 0
+Outside p hs = (h : Hearing) → Among h hs → Inside p h → ⊥
+
+abbrev Comes : ℕ → ℕ → List ℕ → ℕ → Message → Type 0
+Comes at k bs p m =
+    standing (drop p bs) ≡ intact m → p + (sizeOf m + 770) ≤ length bs → k ≤ p → Outside (at + p) (scanFrom at k bs .heard)
+    → Among (record { place = at + p; message = m }) (scanFrom at k bs .heard)
+
+-- the same place counted from one byte on
+onwards : (at k p : ℕ) (xs : List ℕ) (m : Message) → Comes (suc at) k xs p m
+    → standing (drop p xs) ≡ intact m → p + (sizeOf m + 770) ≤ length xs → k ≤ p → Outside (at + suc p) (scanFrom (suc at) k xs .heard)
+    → Among (record { place = at + suc p; message = m }) (scanFrom (suc at) k xs .heard)
+onwards at k p xs m ih e long le out =
+    let same : suc at + p ≡ at + suc p = omega arith in
+    subst (λ (n : ℕ). Among (record { place = n; message = m }) (scanFrom (suc at) k xs .heard)) same
+    (ih e long le (subst (λ (n : ℕ). Outside n (scanFrom (suc at) k xs .heard)) (sym same) out))
+
+-- An undecided place has at most 779 bytes from its first on, so a frame that begins behind it with 770 bytes behind its end begins at the
+-- very next byte, and that one it cannot be.
+never-waited : (x p : ℕ) (xs : List ℕ) (m : Message) → standing (x ∷ xs) ≡ undecided → standing (drop p xs) ≡ intact m → suc p + (sizeOf m + 770) ≤ suc (length xs) → ⊥
+never-waited x zero xs m u e long = never-next x xs m u e
+never-waited x (suc p) xs m u e long = let short = undecided-short (x ∷ xs) u in omega arith
+
+comes : (at k : ℕ) (bs : List ℕ) (p : ℕ) (m : Message) → Comes at k bs p m
+unfolding scanFrom scannedAt Among
+comes at k [] p m = λ e long le out. absurd (omega arith)
+comes at (suc k) (x ∷ xs) zero m = λ e long le out. absurd (not-suc-le-zero le)
+comes at (suc k) (x ∷ xs) (suc p) m =
+    let ih = comes (suc at) k xs p m in
+    λ e long le out. onwards at k p xs m ih e (omega arith) (le-of-suc-le-suc le) out
+comes at zero (x ∷ xs) zero m =
+    λ e long le out.
+    subst (λ (s : Scanned). Among (record { place = at + 0; message = m }) (s .heard))
+    (sym (ap (λ p. scannedAt p at (x ∷ xs) (λ k. scanFrom (suc at) k xs)) e)) (inl (ap (λ n. record { place = n; message = m }) (add-zero at)))
+comes at zero (x ∷ xs) (suc p) m = go (standing (x ∷ xs)) refl (λ k. comes (suc at) k xs p m)
+  where
+    go : (q : Standing) → standing (x ∷ xs) ≡ q → ((k : ℕ) → Comes (suc at) k xs p m)
+        → standing (drop p xs) ≡ intact m → suc p + (sizeOf m + 770) ≤ suc (length xs) → 0 ≤ suc p
+        → Outside (at + suc p) (scannedAt q at (x ∷ xs) (λ k. scanFrom (suc at) k xs) .heard)
+        → Among (record { place = at + suc p; message = m }) (scannedAt q at (x ∷ xs) (λ k. scanFrom (suc at) k xs) .heard)
+    go noise eq ih e long le out = onwards at 0 p xs m (ih 0) e (omega arith) (omega arith) out
+    go undecided eq ih e long le out = absurd (never-waited x p xs m eq e long)
+    go (intact g) eq ih e long le out =
+        ⊎-elim
+        (λ in-it. absurd (out (record { place = at; message = g }) (inl refl) (omega arith, omega arith)))
+        (λ past. inr (onwards at (tailSize g) p xs m (ih (tailSize g)) e (omega arith) past (λ y among. out y (inr among))))
+        (cases-lt p (tailSize g))
+
+pub none-swallowed : (bs : List ℕ) → NoneSwallowed bs
+none-swallowed bs p m e long out =
+    subst (λ (n : ℕ). Among (record { place = n; message = m }) (scan bs .heard)) (zero-add p)
+    (comes 0 0 bs p m e long (omega arith) (subst (λ (n : ℕ). Outside n (scan bs .heard)) (sym (zero-add p)) out))
+
+-- Heard as written
+
+pub heard-before : (m : Message) (more : List ℕ) → length (m .payload) ≤ maxPayload
+    → scan (frameBytes m ++ more) ≡ withHeard (record { place = 0; message = m }) (scanFrom (length (frameBytes m)) 0 more)
+heard-before m more few =
+    let size : length (frameBytes m) ≡ sizeOf m = frame-length m in
+    scan-intact 0 (frameBytes m ++ more) m (intact-more (frameBytes m) more m (frame-is-intact m few))
+    ∙ ap (λ (bs : List ℕ). withHeard (record { place = 0; message = m }) (scanFrom (0 + sizeOf m) 0 bs)) (drop-at (frameBytes m) more (sizeOf m) size)
+    ∙ ap (λ (n : ℕ). withHeard (record { place = 0; message = m }) (scanFrom n 0 more)) (omega arith)
+
+pub heard-as-written : (m : Message) → length (m .payload) ≤ maxPayload → HeardAs m (frameBytes m)
+unfolding scanFrom
+heard-as-written m few = record {
+    alone = ap scan (sym (append-nil (frameBytes m))) ∙ heard-before m [] few;
+    before = λ more. heard-before m more few }

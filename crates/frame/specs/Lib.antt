@@ -1,0 +1,5 @@
+pub mod Checksum
+pub mod Frames
+pub mod Meaning
+pub mod Scanning
+pub mod Written

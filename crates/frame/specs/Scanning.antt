@@ -1,0 +1,108 @@
+-- Scanning a run of bytes: which frames are heard in it, where, how many bytes are noise, and what is left undecided.
+use mathlib.Core.Path.{_≡_}
+use mathlib.Core.Logic.{_⊎_}
+use mathlib.Core.List.{List, [], _∷_, _++_}
+use Prim.Native.Nat.{ℕ, zero, suc, _+_, _≤_, _<_}
+use lib.ListN.{length, take, drop}
+use Rattle.std.specs.declared.option.Option.{Option}
+use Rattle.std.specs.declared.option.Option.the-variants.{Some, None}
+use Rattle.frame.specs.Frames.{Message, tailSize, sizeOf, Standing, noise, undecided, intact, standing}
+
+-- What a search finds: the bytes of noise up to the first frame heard or undecided place, the frame's message, and what stands behind it
+-- (where no frame is heard: the undecided bytes).
+pub record Finding : Type 0 where
+  pub skipped : ℕ
+  pub message : Option Message
+  pub rest : List ℕ
+
+abbrev pub behindNoise : Finding → Finding
+behindNoise f = record { skipped = suc (f .skipped); message = f .message; rest = f .rest }
+
+unfoldable pub findingAt : Standing → List ℕ → (Unit {0} → Finding) → Finding
+findingAt noise bs on = behindNoise (on tt)
+findingAt undecided bs on = record { skipped = 0; message = None; rest = bs }
+findingAt (intact m) bs on = record { skipped = 0; message = Some m; rest = drop (sizeOf m) bs }
+
+unfoldable pub finding : List ℕ → Finding
+finding [] = record { skipped = 0; message = None; rest = [] }
+finding (x ∷ xs) = findingAt (standing (x ∷ xs)) (x ∷ xs) (λ _. finding xs)
+
+-- a heard frame: the place of its first byte, and what it carries
+pub record Hearing : Type 0 where
+  pub place : ℕ
+  pub message : Message
+
+-- What scanning finds: the frames heard, in order; the count of noise bytes; the undecided bytes at the end, and the place of the first of them.
+pub record Scanned : Type 0 where
+  pub heard : List Hearing
+  pub noise : ℕ
+  pub rest : List ℕ
+  pub rest-place : ℕ
+
+abbrev pub withNoise : Scanned → Scanned
+withNoise s = record { heard = s .heard; noise = suc (s .noise); rest = s .rest; rest-place = s .rest-place }
+
+abbrev pub withHeard : Hearing → Scanned → Scanned
+withHeard h s = record { heard = h ∷ s .heard; noise = s .noise; rest = s .rest; rest-place = s .rest-place }
+
+abbrev pub waiting : ℕ → List ℕ → Scanned
+waiting at bs = record { heard = []; noise = 0; rest = bs; rest-place = at }
+
+-- One byte of noise is passed over; a heard frame is passed over whole; at an undecided place scanning ends.
+unfoldable pub scannedAt : Standing → ℕ → List ℕ → (ℕ → Scanned) → Scanned
+scannedAt noise at bs on = withNoise (on 0)
+scannedAt undecided at bs on = waiting at bs
+scannedAt (intact m) at bs on = withHeard (record { place = at; message = m }) (on (tailSize m))
+
+-- at: the place of the first byte; inside: how many bytes from here on belong to a frame that is heard already
+unfoldable pub scanFrom : ℕ → ℕ → List ℕ → Scanned
+scanFrom at inside [] = waiting at []
+scanFrom at zero (x ∷ xs) = scannedAt (standing (x ∷ xs)) at (x ∷ xs) (λ k. scanFrom (suc at) k xs)
+scanFrom at (suc k) (x ∷ xs) = scanFrom (suc at) k xs
+
+abbrev pub scan : List ℕ → Scanned
+scan bs = scanFrom 0 0 bs
+
+-- What the frames heard in a run of bytes promise
+
+-- one scan and another that goes on behind it
+abbrev pub both : Scanned → Scanned → Scanned
+both s t = record { heard = s .heard ++ t .heard; noise = s .noise + t .noise; rest = t .rest; rest-place = t .rest-place }
+
+-- In pieces: scanning goes on from the undecided rest, with more bytes behind it, as if all had come at once.
+abbrev pub InPieces : List ℕ → Type 0
+InPieces bs = (more : List ℕ) → scan (bs ++ more) ≡ both (scan bs) (scanFrom (scan bs .rest-place) 0 (scan bs .rest ++ more))
+
+unfoldable pub Among : {A : Type 0} → A → List A → Type 0
+Among x [] = ⊥
+Among x (y ∷ ys) = (x ≡ y) ⊎ Among x ys
+
+-- a place inside a heard frame, behind its first byte
+abbrev pub Inside : ℕ → Hearing → Type 0
+Inside p h = (h .place < p) × (p < h .place + sizeOf (h .message))
+
+-- Nothing is swallowed: an intact frame that does not begin inside a heard one is heard, once 770 bytes behind it are there.
+abbrev pub NoneSwallowed : List ℕ → Type 0
+NoneSwallowed bs =
+    (p : ℕ) (m : Message) → standing (drop p bs) ≡ intact m → p + (sizeOf m + 770) ≤ length bs
+    → ((h : Hearing) → Among h (scan bs .heard) → Inside p h → ⊥) → Among (record { place = p; message = m }) (scan bs .heard)
+
+-- Each frame is intact where it is heard, none before n, and the next one behind its end.
+unfoldable pub InOrder : List ℕ → ℕ → List Hearing → Type 0
+InOrder bs n [] = Unit {0}
+InOrder bs n (h ∷ hs) = (n ≤ h .place) × (standing (drop (h .place) bs) ≡ intact (h .message)) × InOrder bs (h .place + sizeOf (h .message)) hs
+
+-- how many bytes the heard frames have
+unfoldable pub sizes : List Hearing → ℕ
+sizes [] = 0
+sizes (h ∷ hs) = sizeOf (h .message) + sizes hs
+
+-- Each byte is counted once: as noise, in a heard frame, or in the undecided rest, which is the end of the bytes.
+abbrev pub Accounted : List ℕ → Type 0
+Accounted bs = (scan bs .noise + sizes (scan bs .heard) + length (scan bs .rest) ≡ length bs) × (scan bs .rest ≡ drop (scan bs .rest-place) bs)
+
+-- The bytes are heard as one frame with this message, at place 0, with no noise and nothing left; and with more bytes behind them scanning
+-- goes on behind the frame.
+pub record HeardAs (m : Message) (bs : List ℕ) : Type 0 where
+  pub alone : scan bs ≡ withHeard (record { place = 0; message = m }) (waiting (length bs) [])
+  pub before : (more : List ℕ) → scan (bs ++ more) ≡ withHeard (record { place = 0; message = m }) (scanFrom (length bs) 0 more)

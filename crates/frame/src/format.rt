@@ -1,0 +1,22 @@
+// The format of a frame: b5 62, class, ID, the payload's length in two bytes (low byte first), the payload, two check bytes.
+ghost use mathlib.Core.Path.{_≡_};
+ghost use Rattle.frame.specs.Frames.{sizeOf};
+ghost use Rattle.frame.specs.Meaning.{messageOf};
+
+// The two bytes that a frame begins with.
+pub const PREAMBLE: [u8; 2] = [0xb5, 0x62];
+
+// What stands before the payload: preamble, class, ID and length.
+pub const HEADER: usize = 6;
+
+// The most payload bytes that a frame may have, and so the most bytes of a frame.
+pub const MAX_PAYLOAD: usize = 772;
+pub const MAX_FRAME: usize = 780;
+
+// What an intact frame carries; the payload is a part of the bytes that it was heard in.
+#[derive(Clone, Copy, Debug)]
+pub struct Frame<'a> {
+    pub class: u8,
+    pub id: u8,
+    pub payload: &'a [u8],
+}

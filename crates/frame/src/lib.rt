@@ -1,0 +1,4 @@
+// UBX frames.
+pub mod format;
+pub mod scanner;
+pub mod sums;
