@@ -10,7 +10,10 @@ use lib.ListN.{length, take, drop, getD}
 use Rattle.std.proofs.shelf.Lists.{length-append, length-take-le, length-drop, take-append-le, drop-append-le, drop-all, take-at, drop-at, drop-drop, drop-more, getD-drop}
 use Rattle.std.proofs.shelf.Tests.{cases-lt, leb-true, le-leb, lt-leb, eq-eqb, ne-eqb, eqb-true, and-left, and-right, and-from, cond-true, cond-false}
 use Rattle.frame.specs.declared.sums.CheckBytes.{CheckBytes}
+use Rattle.frame.specs.declared.scanner.Start.{Start}
+use Rattle.frame.specs.declared.scanner.Start.the-variants.{Noise, Undecided, Intact}
 use Rattle.frame.specs.Checksum.{checkBytes}
+use Rattle.frame.specs.Meaning.{messageOf, standingOf, frameSize}
 use Rattle.frame.specs.Frames.{preamble₁, preamble₂, maxPayload, Message, tailSize, sizeOf, bodyOf, frameBytes, Standing, noise, undecided, intact, atCheckBytes, atPayload, atHeader, atSecond, standing, messageAt, behindHeader}
 
 -- The three cases are apart
@@ -128,6 +131,11 @@ pub intact-fits : (xs : List ℕ) (m : Message) → standing xs ≡ intact m →
 unfolding standing
 intact-fits [] m e = absurd (undecided≢intact m e)
 intact-fits (p ∷ xs) m e = omega (arith, second-fits xs m (intact-under (eqb p preamble₁) _ m e .1))
+
+pub frame-fits : (xs : List ℕ) (r : Start) → standingOf r ≡ standing xs → frameSize r ≤ length xs
+frame-fits xs Noise e = omega arith
+frame-fits xs Undecided e = omega arith
+frame-fits xs (Intact f) e = intact-fits xs (messageOf f) (sym e)
 
 -- A place behind which 780 bytes stand is decided
 

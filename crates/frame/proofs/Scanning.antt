@@ -5,14 +5,14 @@ use mathlib.Core.List.{List, [], _∷_, _++_, append-nil}
 use Prim.Native.Nat.{ℕ, zero, suc, _+_, _-_, _*_, _≤_, _<_}
 use native.Mathlib.Nat.{add-zero, zero-add, add-suc, suc-add, not-suc-le-zero, le-of-suc-le-suc}
 use native.Mathlib.Omega.{arith}
-use lib.ListN.{length, take, drop}
+use lib.ListN.{length, take, drop, getD}
 use Rattle.std.specs.declared.option.Option.{Option}
 use Rattle.std.specs.declared.option.Option.the-variants.{Some, None}
-use Rattle.std.proofs.shelf.Lists.{drop-drop, drop-at}
+use Rattle.std.proofs.shelf.Lists.{drop-drop, drop-at, drop-all}
 use Rattle.std.proofs.shelf.Tests.{cases-lt}
 use Rattle.frame.specs.Frames.{preamble₁, maxPayload, Message, tailSize, sizeOf, bodyOf, frameBytes, Standing, noise, undecided, intact, standing}
-use Rattle.frame.specs.Scanning.{Hearing, Scanned, withNoise, withHeard, waiting, scannedAt, scanFrom, scan, both, InPieces, Among, Inside, NoneSwallowed, InOrder, sizes, Accounted, HeardAs}
-use Rattle.frame.proofs.Frames.{noise-more, intact-more, intact-fits, undecided-short, never-next, frame-length, frame-is-intact}
+use Rattle.frame.specs.Scanning.{Finding, behindNoise, findingAt, finding, Hearing, Scanned, withNoise, withHeard, waiting, scannedAt, scanFrom, scan, both, InPieces, Among, Inside, NoneSwallowed, InOrder, sizes, Accounted, HeardAs}
+use Rattle.frame.proofs.Frames.{noise-more, intact-more, intact-fits, undecided-short, never-next, standing-none, frame-length, frame-is-intact}
 
 -- Scanning at a byte that is decided
 
@@ -220,3 +220,61 @@ unfolding scanFrom
 heard-as-written m few = record {
     alone = ap scan (sym (append-nil (frameBytes m))) ∙ heard-before m [] few;
     before = λ more. heard-before m more few }
+
+-- A search, byte by byte
+
+finding-noise : (bs : List ℕ) → standing bs ≡ noise → finding bs ≡ behindNoise (finding (drop 1 bs))
+unfolding finding findingAt standing
+finding-noise [] e = let z : _≡_ {A = ℕ} 0 1 = cc in absurd (omega arith)
+finding-noise (x ∷ xs) e = ap (λ p. findingAt p (x ∷ xs) (λ _. finding xs)) e
+
+finding-undecided : (bs : List ℕ) → standing bs ≡ undecided → finding bs ≡ record { skipped = 0; message = None; rest = bs }
+unfolding finding findingAt standing
+finding-undecided [] e = refl
+finding-undecided (x ∷ xs) e = ap (λ p. findingAt p (x ∷ xs) (λ _. finding xs)) e
+
+finding-intact : (bs : List ℕ) (m : Message) → standing bs ≡ intact m → finding bs ≡ record { skipped = 0; message = Some m; rest = drop (sizeOf m) bs }
+unfolding finding findingAt standing
+finding-intact [] m e = let z : _≡_ {A = ℕ} 0 1 = cc in absurd (omega arith)
+finding-intact (x ∷ xs) m e = ap (λ p. findingAt p (x ∷ xs) (λ _. finding xs)) e
+
+-- what a search finds behind n bytes of noise
+abbrev pub behindAll : ℕ → Finding → Finding
+behindAll n f = record { skipped = n + f .skipped; message = f .message; rest = f .rest }
+
+counting : Option Message → List ℕ → ℕ → Finding
+counting m bs n = record { skipped = n; message = m; rest = bs }
+
+-- the loop of a search that has found noise alone in the first i bytes; rest is what stands from there on
+module _ (bs : List ℕ) (i : ℕ) (rest : List ℕ) (is : rest ≡ drop i bs) (inv : behindAll i (finding (drop i bs)) ≡ finding bs) where
+  found : (f : Finding) → finding rest ≡ f → behindAll i f ≡ finding bs
+  found f e = ap (behindAll i) (sym e ∙ ap finding is) ∙ inv
+
+  pub find-noise : noise ≡ standing rest → behindAll (i + 1) (finding (drop (i + 1) bs)) ≡ finding bs
+  unfolding counting
+  find-noise e =
+      let f = finding (drop (i + 1) bs) in
+      let n : i + 1 + f .skipped ≡ i + suc (f .skipped) = omega arith in
+      ap (counting (f .message) (f .rest)) n
+      ∙ ap (λ (xs : List ℕ). behindAll i (behindNoise (finding xs))) (sym (ap (drop 1) is ∙ drop-drop 1 i bs))
+      ∙ found _ (finding-noise rest (sym e))
+
+  pub find-undecided : undecided ≡ standing rest → record { skipped = i; message = None; rest = rest } ≡ finding bs
+  unfolding counting
+  find-undecided e = ap (counting None rest) (sym (add-zero i)) ∙ found _ (finding-undecided rest (sym e))
+
+  pub find-intact : (m : Message) (n : ℕ) (behind : List ℕ) → intact m ≡ standing rest → n ≡ sizeOf m → behind ≡ drop n rest → record { skipped = i; message = Some m; rest = behind } ≡ finding bs
+  unfolding counting
+  find-intact m n behind e size b =
+      let all : behind ≡ drop (sizeOf m) rest = b ∙ ap (λ k. drop k rest) size in
+      ap (counting (Some m) behind) (sym (add-zero i)) ∙ ap (λ (xs : List ℕ). counting (Some m) xs (i + 0)) all ∙ found _ (finding-intact rest m (sym e))
+
+pub find-none : (bs : List ℕ) → behindAll 0 (finding bs) ≡ finding bs
+unfolding counting
+find-none bs = ap (counting (finding bs .message) (finding bs .rest)) (zero-add (finding bs .skipped))
+
+pub find-end : (bs : List ℕ) (i : ℕ) (rest : List ℕ) → length bs ≤ i → rest ≡ drop (length bs) bs → behindAll i (finding (drop i bs)) ≡ finding bs
+    → record { skipped = i; message = None; rest = rest } ≡ finding bs
+find-end bs i rest le is inv =
+    let none : rest ≡ [] = is ∙ drop-all (length bs) bs (omega arith) in
+    find-undecided bs i rest (none ∙ sym (drop-all i bs le)) inv (sym (standing-none rest (ap length none)))

@@ -4,7 +4,7 @@ ghost use Prim.Native.Nat.{_+_, _<_, _≤_};
 ghost use lib.ListN.{length, drop};
 ghost use Rattle.frame.specs.Frames.{maxPayload, noise, undecided, standing, atCheckBytes, messageAt, behindHeader};
 ghost use Rattle.frame.specs.Scanning.{finding};
-ghost use Rattle.frame.specs.Meaning.{messageOf, standingOf, findingOf};
+ghost use Rattle.frame.specs.Meaning.{standingOf, frameSize, findingOf};
 use crate::format::Frame;
 use crate::format::FrameDebug;
 use crate::format::HEADER;
@@ -79,7 +79,8 @@ fn closed(bytes: &[u8], count: usize, sums: CheckBytes) -> Start<'_>
 
 // What stands at the first of the bytes.
 pub fn start_of(bytes: &[u8]) -> Start<'_>
-    ensures { λ r. ⌜ standingOf r ≡ standing (now (bytes .entry)) ⌝ }
+    ensures value { λ r. ⌜ standingOf r ≡ standing (now (bytes .entry)) ⌝ }
+    ensures fits { λ r. ⌜ frameSize r ≤ length (now (bytes .entry)) ⌝ }
 {
     match header_of(bytes) {
         Header::Noise => Start::Noise,
@@ -93,10 +94,50 @@ pub fn start_of(bytes: &[u8]) -> Start<'_>
     }
 }
 
-// The first frame that is heard.
+// The bytes from a place on.
+fn from(bytes: &[u8], place: usize) -> &[u8]
+    requires { ⌜ place ≤ length (now bytes) ⌝ }
+    ensures { λ r. ⌜ now r ≡ drop place (now (bytes .entry)) ⌝ }
+{
+    &bytes[place..]
+}
+
+// The first frame that is heard, if there is one: the bytes of noise before it, and the bytes behind it.
+// Where there is none, `rest` is what is still undecided.
 #[derive(Clone, Copy, Debug)]
 pub struct Found<'a> {
     pub noise: usize,
     pub frame: Option<Frame<'a>>,
     pub rest: &'a [u8],
+}
+
+// Noise up to the first frame heard or undecided place, and that frame.
+pub fn find(bytes: &[u8]) -> Found<'_>
+    ensures { λ r. ⌜ findingOf r ≡ finding (now (bytes .entry)) ⌝ }
+{
+    for noise in 0..bytes.len() {
+        let rest = from(bytes, noise);
+        match start_of(rest) {
+            Start::Noise => {}
+            Start::Undecided => {
+                return Found {
+                    noise,
+                    frame: None,
+                    rest,
+                };
+            }
+            Start::Intact(frame) => {
+                return Found {
+                    noise,
+                    frame: Some(frame),
+                    rest: from(rest, frame.size()),
+                };
+            }
+        }
+    }
+    Found {
+        noise: bytes.len(),
+        frame: None,
+        rest: from(bytes, bytes.len()),
+    }
 }

@@ -1,6 +1,11 @@
 // The checksum of a frame: two sums over the bytes from the class to the payload's end.
 ghost use mathlib.Core.Path.{_≡_};
-ghost use Rattle.frame.specs.Checksum.{withByte, noSums, checkBytes};
+ghost use Prim.Native.Nat.{_<_};
+ghost use Rattle.std.specs.Of.Vec.{vec-items};
+ghost use Rattle.std.specs.Vec.{made};
+ghost use Rattle.frame.specs.Checksum.{withByte, noSums, checkBytes, runningSums, sumsBetween};
+use std::alloc::AllocError;
+use std::alloc::Global;
 
 // The two check bytes, or the sums on the way to them.
 #[derive(Clone, Copy, PartialEq, Eq, Debug)]
@@ -27,6 +32,18 @@ impl CheckBytes {
             b: self.b.wrapping_add(a),
         }
     }
+
+    // The check bytes of `count` bytes, before which the sums are `self` and behind which they are `end`.
+    pub(crate) fn up_to(self, end: CheckBytes, count: usize) -> CheckBytes
+        requires { ⌜ count < 1000 ⌝ }
+        ensures { λ r. ⌜ r ≡ sumsBetween self end count ⌝ }
+    {
+        let before = (count * self.a as usize + self.b as usize) % 256;
+        CheckBytes {
+            a: ((end.a as usize + 256 - self.a as usize) % 256) as u8,
+            b: ((end.b as usize + 256 - before) % 256) as u8,
+        }
+    }
 }
 
 // The check bytes of a run of bytes.
@@ -38,4 +55,17 @@ pub fn check_bytes(bytes: &[u8]) -> CheckBytes
         sums = sums.with(*byte);
     }
     sums
+}
+
+// The sums behind each of the bytes. With them the check bytes of any part cost two look-ups.
+pub(crate) fn running_sums(heap: Global, bytes: &[u8]) -> Result<Vec<CheckBytes>, AllocError>
+    ensures { λ r. ⌜ made r (λ v. vec-items v ≡ runningSums noSums (now (bytes .entry))) ⌝ }
+{
+    let mut running = Vec::with_capacity(heap, bytes.len())?;
+    let mut sums = CheckBytes::new();
+    for byte in bytes {
+        sums = sums.with(*byte);
+        running.push(sums)?;
+    }
+    Ok(running)
 }
