@@ -12,9 +12,10 @@ use Rattle.std.proofs.shelf.Tests.{cases-lt, leb-true, le-leb, lt-leb, eq-eqb, 
 use Rattle.frame.specs.declared.sums.CheckBytes.{CheckBytes}
 use Rattle.frame.specs.declared.scanner.Start.{Start}
 use Rattle.frame.specs.declared.scanner.Start.the-variants.{Noise, Undecided, Intact}
-use Rattle.frame.specs.Checksum.{checkBytes}
-use Rattle.frame.specs.Meaning.{messageOf, standingOf, frameSize}
+use Rattle.frame.specs.Checksum.{noSums, checkBytes, runningSums, sumsBetween}
+use Rattle.frame.specs.Meaning.{messageOf, standingOf, passed}
 use Rattle.frame.specs.Frames.{preamble₁, preamble₂, maxPayload, Message, tailSize, sizeOf, bodyOf, frameBytes, Standing, noise, undecided, intact, atCheckBytes, atPayload, atHeader, atSecond, standing, messageAt, behindHeader}
+use Rattle.frame.proofs.Checksum.{window-sums}
 
 -- The three cases are apart
 
@@ -132,10 +133,15 @@ unfolding standing
 intact-fits [] m e = absurd (undecided≢intact m e)
 intact-fits (p ∷ xs) m e = omega (arith, second-fits xs m (intact-under (eqb p preamble₁) _ m e .1))
 
-pub frame-fits : (xs : List ℕ) (r : Start) → standingOf r ≡ standing xs → frameSize r ≤ length xs
-frame-fits xs Noise e = omega arith
-frame-fits xs Undecided e = omega arith
-frame-fits xs (Intact f) e = intact-fits xs (messageOf f) (sym e)
+noise-some : (xs : List ℕ) → standing xs ≡ noise → 1 ≤ length xs
+unfolding standing
+noise-some [] e = absurd (noise≢undecided (sym e))
+noise-some (x ∷ xs) e = omega arith
+
+pub passed-fits : (xs : List ℕ) (r : Start) → standingOf r ≡ standing xs → passed r ≤ length xs
+passed-fits xs Noise e = noise-some xs (sym e)
+passed-fits xs Undecided e = omega arith
+passed-fits xs (Intact f) e = intact-fits xs (messageOf f) (sym e)
 
 -- A place behind which 780 bytes stand is decided
 
@@ -329,3 +335,21 @@ both-right s m bs k lt p q = sym (both-there s m bs k lt ∙ cond-true _ _ _ (an
 pub check-missing : (s : CheckBytes) (m : Message) (bs : List ℕ) (k : ℕ) → length bs ≤ k → undecided ≡ atCheckBytes s m (drop k bs)
 unfolding atCheckBytes
 check-missing s m bs k le = sym (ap (atCheckBytes s m) (drop-all k bs le))
+
+-- what stands at a place of some bytes, with the check bytes taken from the running sums; rest is what stands from there on
+module _ (bs : List ℕ) (place : ℕ) (rest : List ℕ) (is : rest ≡ drop place bs) (len : place + length rest ≡ length bs) (n : ℕ) (head : standing rest ≡ behindHeader n rest) where
+  pub place-missing : length rest ≤ 6 + n → undecided ≡ standing (drop place bs)
+  place-missing le = check-missing (checkBytes (take (4 + n) (drop 2 rest))) (messageAt n rest) rest (6 + n) le ∙ sym head ∙ ap standing is
+
+  pub place-closed : (running : List CheckBytes) (s : CheckBytes) (p : Standing) → running ≡ runningSums noSums bs → 6 + n < length rest
+      → s ≡ sumsBetween (getD running (place + 1) noSums) (getD running (place + 1 + (4 + n)) noSums) (4 + n)
+      → p ≡ atCheckBytes s (messageAt n rest) (drop (6 + n) rest) → p ≡ standing (drop place bs)
+  place-closed running s p all long e q =
+      let sums = ap (λ (v : List CheckBytes). sumsBetween (getD v (place + 1) noSums) (getD v (place + 1 + (4 + n)) noSums) (4 + n)) all in
+      let next : place + 1 + 1 ≡ place + 2 = omega arith in
+      let part : drop (place + 1 + 1) bs ≡ drop 2 rest = ap (λ k. drop k bs) next ∙ sym (drop-drop 2 place bs) ∙ ap (drop 2) (sym is) in
+      let same : s ≡ checkBytes (take (4 + n) (drop 2 rest)) = e ∙ sums ∙ window-sums bs (place + 1) (4 + n) (omega arith) ∙ ap (λ (xs : List ℕ). checkBytes (take (4 + n) xs)) part in
+      q ∙ ap (λ (t : CheckBytes). atCheckBytes t (messageAt n rest) (drop (6 + n) rest)) same ∙ sym head ∙ ap standing is
+
+pub place-fits : (bs : List ℕ) (place : ℕ) (r : Start) → place ≤ length bs → standingOf r ≡ standing (drop place bs) → place + passed r ≤ length bs
+place-fits bs place r le e = let l = length-drop place bs in omega (arith, passed-fits (drop place bs) r e)

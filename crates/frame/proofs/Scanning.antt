@@ -1,7 +1,7 @@
 -- Scanning: behind more bytes, in pieces, in order, with each byte counted once, and with no frame swallowed.
 use mathlib.Core.Path.{_≡_, refl, sym, ap, subst, _∙_}
 use mathlib.Core.Logic.{_⊎_, inl, inr, ⊎-elim}
-use mathlib.Core.List.{List, [], _∷_, _++_, append-nil}
+use mathlib.Core.List.{List, [], _∷_, _++_, append-nil, append-assoc}
 use Prim.Native.Nat.{ℕ, zero, suc, _+_, _-_, _*_, _≤_, _<_}
 use native.Mathlib.Nat.{add-zero, zero-add, add-suc, suc-add, not-suc-le-zero, le-of-suc-le-suc}
 use native.Mathlib.Omega.{arith}
@@ -11,7 +11,7 @@ use Rattle.std.specs.declared.option.Option.the-variants.{Some, None}
 use Rattle.std.proofs.shelf.Lists.{drop-drop, drop-at, drop-all}
 use Rattle.std.proofs.shelf.Tests.{cases-lt}
 use Rattle.frame.specs.Frames.{preamble₁, maxPayload, Message, tailSize, sizeOf, bodyOf, frameBytes, Standing, noise, undecided, intact, standing}
-use Rattle.frame.specs.Scanning.{Finding, behindNoise, findingAt, finding, Hearing, Scanned, withNoise, withHeard, waiting, scannedAt, scanFrom, scan, both, InPieces, Among, Inside, NoneSwallowed, InOrder, sizes, Accounted, HeardAs}
+use Rattle.frame.specs.Scanning.{Finding, behindNoise, findingAt, finding, Hearing, Scanned, withNoise, withHeard, waiting, scannedAt, scanFrom, scanned, both, InPieces, Among, Inside, NoneSwallowed, InOrder, sizes, Promised, HeardAs}
 use Rattle.frame.proofs.Frames.{noise-more, intact-more, intact-fits, undecided-short, never-next, standing-none, frame-length, frame-is-intact}
 
 -- Scanning at a byte that is decided
@@ -78,8 +78,6 @@ pieces at zero (x ∷ xs) more = go (standing (x ∷ xs)) refl (λ k. pieces (su
         ap (λ p. scannedAt p at (x ∷ xs ++ more) (λ k. scanFrom (suc at) k (xs ++ more))) (intact-more (x ∷ xs) more m e)
         ∙ ap (withHeard (record { place = at; message = m })) (ih (tailSize m) (le-of-suc-le-suc (intact-fits (x ∷ xs) m e)))
 
-pub in-pieces : (bs : List ℕ) → InPieces bs
-in-pieces bs more = pieces 0 0 bs more (omega arith)
 
 -- In order
 
@@ -109,9 +107,6 @@ ordered bs at zero (x ∷ xs) = go (standing (x ∷ xs)) refl (λ k. ordered bs 
     go (intact m) s ih e =
         let same : suc at + tailSize m ≡ at + sizeOf m = omega arith in
         (omega arith, ap standing e ∙ s, subst (λ (n : ℕ). InOrder bs n (scanFrom (suc at) (tailSize m) xs .heard)) same (ih (tailSize m) (drop-next at x xs bs e)))
-
-pub in-order : (bs : List ℕ) → InOrder bs 0 (scan bs .heard)
-in-order bs = ordered bs 0 0 bs refl
 
 -- Each byte is counted once
 
@@ -147,8 +142,19 @@ ends bs at zero (x ∷ xs) = go (standing (x ∷ xs)) (λ k. ends bs (suc at) k 
     go undecided ih e = sym e
     go (intact m) ih e = ih (tailSize m) (drop-next at x xs bs e)
 
-pub accounted : (bs : List ℕ) → Accounted bs
-accounted bs = let c = counted 0 0 bs (omega arith) in (omega arith, ends bs 0 0 bs refl)
+-- The rest is undecided, so it is short
+
+rest-waits : (at k : ℕ) (bs : List ℕ) → standing (scanFrom at k bs .rest) ≡ undecided
+unfolding scanFrom scannedAt standing
+rest-waits at k [] = refl
+rest-waits at (suc k) (x ∷ xs) = rest-waits (suc at) k xs
+rest-waits at zero (x ∷ xs) = go (standing (x ∷ xs)) refl (λ k. rest-waits (suc at) k xs)
+  where
+    go : (p : Standing) → standing (x ∷ xs) ≡ p → ((k : ℕ) → standing (scanFrom (suc at) k xs .rest) ≡ undecided)
+        → standing (scannedAt p at (x ∷ xs) (λ k. scanFrom (suc at) k xs) .rest) ≡ undecided
+    go noise e ih = ih 0
+    go undecided e ih = e
+    go (intact m) e ih = ih (tailSize m)
 
 -- Nothing is swallowed
 
@@ -200,15 +206,29 @@ comes at zero (x ∷ xs) (suc p) m = go (standing (x ∷ xs)) refl (λ k. comes 
         (λ past. inr (onwards at (tailSize g) p xs m (ih (tailSize g)) e (omega arith) past (λ y among. out y (inr among))))
         (cases-lt p (tailSize g))
 
-pub none-swallowed : (bs : List ℕ) → NoneSwallowed bs
+pub none-swallowed : (bs : List ℕ) → NoneSwallowed bs (scanned bs .heard)
 none-swallowed bs p m e long out =
-    subst (λ (n : ℕ). Among (record { place = n; message = m }) (scan bs .heard)) (zero-add p)
-    (comes 0 0 bs p m e long (omega arith) (subst (λ (n : ℕ). Outside n (scan bs .heard)) (sym (zero-add p)) out))
+    subst (λ (n : ℕ). Among (record { place = n; message = m }) (scanned bs .heard)) (zero-add p)
+    (comes 0 0 bs p m e long (omega arith) (subst (λ (n : ℕ). Outside n (scanned bs .heard)) (sym (zero-add p)) out))
+
+-- All of it
+
+pub promised : (bs : List ℕ) → Promised bs (scanned bs)
+promised bs =
+    let c = counted 0 0 bs (omega arith) in
+    let short = undecided-short (scanned bs .rest) (rest-waits 0 0 bs) in
+    record {
+    in-pieces = λ more. pieces 0 0 bs more (omega arith);
+    none-swallowed = none-swallowed bs;
+    in-order = ordered bs 0 0 bs refl;
+    accounted = omega arith;
+    rest-is = ends bs 0 0 bs refl;
+    rest-short = omega arith }
 
 -- Heard as written
 
 pub heard-before : (m : Message) (more : List ℕ) → length (m .payload) ≤ maxPayload
-    → scan (frameBytes m ++ more) ≡ withHeard (record { place = 0; message = m }) (scanFrom (length (frameBytes m)) 0 more)
+    → scanned (frameBytes m ++ more) ≡ withHeard (record { place = 0; message = m }) (scanFrom (length (frameBytes m)) 0 more)
 heard-before m more few =
     let size : length (frameBytes m) ≡ sizeOf m = frame-length m in
     scan-intact 0 (frameBytes m ++ more) m (intact-more (frameBytes m) more m (frame-is-intact m few))
@@ -218,7 +238,7 @@ heard-before m more few =
 pub heard-as-written : (m : Message) → length (m .payload) ≤ maxPayload → HeardAs m (frameBytes m)
 unfolding scanFrom
 heard-as-written m few = record {
-    alone = ap scan (sym (append-nil (frameBytes m))) ∙ heard-before m [] few;
+    alone = ap scanned (sym (append-nil (frameBytes m))) ∙ heard-before m [] few;
     before = λ more. heard-before m more few }
 
 -- A search, byte by byte
@@ -278,3 +298,51 @@ pub find-end : (bs : List ℕ) (i : ℕ) (rest : List ℕ) → length bs ≤ i �
 find-end bs i rest le is inv =
     let none : rest ≡ [] = is ∙ drop-all (length bs) bs (omega arith) in
     find-undecided bs i rest (none ∙ sym (drop-all i bs le)) inv (sym (standing-none rest (ap length none)))
+
+-- Scanning whole bytes, place by place
+
+-- what has been scanned so far
+abbrev pub soFar : List Hearing → ℕ → Scanned
+soFar hs n = record { heard = hs; noise = n; rest = []; rest-place = 0 }
+
+joined : List Hearing → List ℕ → ℕ → ℕ → Scanned
+joined hs rest place n = record { heard = hs; noise = n; rest = rest; rest-place = place }
+
+-- the loop that has come to this place
+module _ (bs : List ℕ) (place : ℕ) (hs : List Hearing) (n : ℕ) (inv : both (soFar hs n) (scanFrom place 0 (drop place bs)) ≡ scanned bs) where
+  scan-on : (s : Scanned) → scanFrom place 0 (drop place bs) ≡ s → both (soFar hs n) s ≡ scanned bs
+  scan-on s e = ap (both (soFar hs n)) (sym e) ∙ inv
+
+  pub scan-noise-on : noise ≡ standing (drop place bs) → both (soFar hs (n + 1)) (scanFrom (place + 1) 0 (drop (place + 1) bs)) ≡ scanned bs
+  unfolding joined
+  scan-noise-on e =
+      let next : place + 1 ≡ suc place = omega arith in
+      let s = scanFrom (suc place) 0 (drop (suc place) bs) in
+      let sum : n + 1 + s .noise ≡ n + suc (s .noise) = omega arith in
+      ap (λ k. both (soFar hs (n + 1)) (scanFrom k 0 (drop k bs))) next
+      ∙ ap (joined (hs ++ s .heard) (s .rest) (s .rest-place)) sum
+      ∙ ap (λ (xs : List ℕ). both (soFar hs n) (withNoise (scanFrom (suc place) 0 xs))) (ap (λ k. drop k bs) (sym next) ∙ sym (drop-drop 1 place bs))
+      ∙ scan-on _ (scan-noise place (drop place bs) (sym e))
+
+  pub scan-intact-on : (m : Message) (size : ℕ) (more : List Hearing) → intact m ≡ standing (drop place bs) → size ≡ sizeOf m → more ≡ hs ++ record { place = place; message = m } ∷ []
+      → both (soFar more n) (scanFrom (place + size) 0 (drop (place + size) bs)) ≡ scanned bs
+  scan-intact-on m size more e is all =
+      let h : Hearing = record { place = place; message = m } in
+      let s = scanFrom (place + sizeOf m) 0 (drop (place + sizeOf m) bs) in
+      ap (λ k. both (soFar more n) (scanFrom (place + k) 0 (drop (place + k) bs))) is
+      ∙ ap (λ (l : List Hearing). both (soFar l n) s) all
+      ∙ ap (λ (l : List Hearing). record { heard = l; noise = n + s .noise; rest = s .rest; rest-place = s .rest-place }) (append-assoc hs (h ∷ []) (s .heard))
+      ∙ ap (λ (xs : List ℕ). both (soFar hs n) (withHeard h (scanFrom (place + sizeOf m) 0 xs))) (sym (drop-drop (sizeOf m) place bs))
+      ∙ scan-on _ (scan-intact place (drop place bs) m (sym e))
+
+  pub scan-ends : (rest : List ℕ) → undecided ≡ standing (drop place bs) → rest ≡ drop place bs → record { heard = hs; noise = n; rest = rest; rest-place = place } ≡ scanned bs
+  unfolding joined
+  scan-ends rest e is =
+      ap (λ (l : List Hearing). joined l rest place n) (sym (append-nil hs)) ∙ ap (joined (hs ++ []) rest place) (sym (add-zero n)) ∙ ap (λ (xs : List ℕ). joined (hs ++ []) xs place (n + 0)) is
+      ∙ scan-on _ (scan-undecided place (drop place bs) (sym e))
+
+pub scan-none : (bs : List ℕ) → both (soFar [] 0) (scanFrom 0 0 bs) ≡ scanned bs
+scan-none bs = sym (both-waiting 0 [] (scanned bs))
+
+pub scan-past : (bs : List ℕ) (place : ℕ) → length bs ≤ place → undecided ≡ standing (drop place bs)
+scan-past bs place le = sym (standing-none (drop place bs) (ap length (drop-all place bs le)))

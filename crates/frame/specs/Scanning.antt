@@ -60,18 +60,18 @@ scanFrom at inside [] = waiting at []
 scanFrom at zero (x ∷ xs) = scannedAt (standing (x ∷ xs)) at (x ∷ xs) (λ k. scanFrom (suc at) k xs)
 scanFrom at (suc k) (x ∷ xs) = scanFrom (suc at) k xs
 
-abbrev pub scan : List ℕ → Scanned
-scan bs = scanFrom 0 0 bs
+abbrev pub scanned : List ℕ → Scanned
+scanned bs = scanFrom 0 0 bs
 
--- What the frames heard in a run of bytes promise
+-- What scanning promises, in the words of places and frames
 
 -- one scan and another that goes on behind it
 abbrev pub both : Scanned → Scanned → Scanned
 both s t = record { heard = s .heard ++ t .heard; noise = s .noise + t .noise; rest = t .rest; rest-place = t .rest-place }
 
--- In pieces: scanning goes on from the undecided rest, with more bytes behind it, as if all had come at once.
-abbrev pub InPieces : List ℕ → Type 0
-InPieces bs = (more : List ℕ) → scan (bs ++ more) ≡ both (scan bs) (scanFrom (scan bs .rest-place) 0 (scan bs .rest ++ more))
+-- In pieces: with more bytes, scanning goes on from the undecided rest and finds what it would have found had all come at once.
+abbrev pub InPieces : List ℕ → Scanned → Type 0
+InPieces bs s = (more : List ℕ) → scanned (bs ++ more) ≡ both s (scanFrom (s .rest-place) 0 (s .rest ++ more))
 
 unfoldable pub Among : {A : Type 0} → A → List A → Type 0
 Among x [] = ⊥
@@ -82,10 +82,10 @@ abbrev pub Inside : ℕ → Hearing → Type 0
 Inside p h = (h .place < p) × (p < h .place + sizeOf (h .message))
 
 -- Nothing is swallowed: an intact frame that does not begin inside a heard one is heard, once 770 bytes behind it are there.
-abbrev pub NoneSwallowed : List ℕ → Type 0
-NoneSwallowed bs =
+abbrev pub NoneSwallowed : List ℕ → List Hearing → Type 0
+NoneSwallowed bs hs =
     (p : ℕ) (m : Message) → standing (drop p bs) ≡ intact m → p + (sizeOf m + 770) ≤ length bs
-    → ((h : Hearing) → Among h (scan bs .heard) → Inside p h → ⊥) → Among (record { place = p; message = m }) (scan bs .heard)
+    → ((h : Hearing) → Among h hs → Inside p h → ⊥) → Among (record { place = p; message = m }) hs
 
 -- Each frame is intact where it is heard, none before n, and the next one behind its end.
 unfoldable pub InOrder : List ℕ → ℕ → List Hearing → Type 0
@@ -97,12 +97,18 @@ unfoldable pub sizes : List Hearing → ℕ
 sizes [] = 0
 sizes (h ∷ hs) = sizeOf (h .message) + sizes hs
 
--- Each byte is counted once: as noise, in a heard frame, or in the undecided rest, which is the end of the bytes.
-abbrev pub Accounted : List ℕ → Type 0
-Accounted bs = (scan bs .noise + sizes (scan bs .heard) + length (scan bs .rest) ≡ length bs) × (scan bs .rest ≡ drop (scan bs .rest-place) bs)
+pub record Promised (bs : List ℕ) (s : Scanned) : Type 0 where
+  pub in-pieces : InPieces bs s
+  pub none-swallowed : NoneSwallowed bs (s .heard)
+  pub in-order : InOrder bs 0 (s .heard)
+  -- each byte is counted once: as noise, in a heard frame, or in the undecided rest
+  pub accounted : s .noise + sizes (s .heard) + length (s .rest) ≡ length bs
+  -- which is the end of the bytes, and so short that it cannot be a whole frame of the largest size
+  pub rest-is : s .rest ≡ drop (s .rest-place) bs
+  pub rest-short : length (s .rest) < 780
 
 -- The bytes are heard as one frame with this message, at place 0, with no noise and nothing left; and with more bytes behind them scanning
 -- goes on behind the frame.
 pub record HeardAs (m : Message) (bs : List ℕ) : Type 0 where
-  pub alone : scan bs ≡ withHeard (record { place = 0; message = m }) (waiting (length bs) [])
-  pub before : (more : List ℕ) → scan (bs ++ more) ≡ withHeard (record { place = 0; message = m }) (scanFrom (length bs) 0 more)
+  pub alone : scanned bs ≡ withHeard (record { place = 0; message = m }) (waiting (length bs) [])
+  pub before : (more : List ℕ) → scanned (bs ++ more) ≡ withHeard (record { place = 0; message = m }) (scanFrom (length bs) 0 more)

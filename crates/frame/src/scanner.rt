@@ -2,9 +2,11 @@
 ghost use mathlib.Core.Path.{_≡_};
 ghost use Prim.Native.Nat.{_+_, _<_, _≤_};
 ghost use lib.ListN.{length, drop};
-ghost use Rattle.frame.specs.Frames.{maxPayload, noise, undecided, standing, atCheckBytes, messageAt, behindHeader};
-ghost use Rattle.frame.specs.Scanning.{finding};
-ghost use Rattle.frame.specs.Meaning.{standingOf, frameSize, findingOf};
+ghost use Rattle.std.specs.Vec.{made};
+ghost use Rattle.frame.specs.Checksum.{noSums, runningSums};
+ghost use Rattle.frame.specs.Frames.{standing, atCheckBytes, messageAt};
+ghost use Rattle.frame.specs.Scanning.{finding, scanned, Promised};
+ghost use Rattle.frame.specs.Meaning.{Headed, standingOf, passed, findingOf, scannedOf};
 use crate::format::Frame;
 use crate::format::FrameDebug;
 use crate::format::HEADER;
@@ -12,6 +14,9 @@ use crate::format::MAX_PAYLOAD;
 use crate::format::PREAMBLE;
 use crate::sums::CheckBytes;
 use crate::sums::check_bytes;
+use crate::sums::running_sums;
+use std::alloc::AllocError;
+use std::alloc::Global;
 
 // What stands at the first byte of a run of bytes.
 #[derive(Clone, Copy, Debug)]
@@ -31,7 +36,7 @@ enum Header {
 }
 
 fn header_of(bytes: &[u8]) -> Header
-    ensures { λ r. ⌜ elim r [ Header.Noise ↦ standing (now (bytes .entry)) ≡ noise | Header.Undecided ↦ standing (now (bytes .entry)) ≡ undecided | Header.Payload n ↦ (6 ≤ length (now (bytes .entry))) × (n ≤ maxPayload) × (standing (now (bytes .entry)) ≡ behindHeader n (now (bytes .entry))) ] ⌝ }
+    ensures { λ r. ⌜ Headed (now (bytes .entry)) r ⌝ }
 {
     if bytes.is_empty() {
         return Header::Undecided;
@@ -80,7 +85,7 @@ fn closed(bytes: &[u8], count: usize, sums: CheckBytes) -> Start<'_>
 // What stands at the first of the bytes.
 pub fn start_of(bytes: &[u8]) -> Start<'_>
     ensures value { λ r. ⌜ standingOf r ≡ standing (now (bytes .entry)) ⌝ }
-    ensures fits { λ r. ⌜ frameSize r ≤ length (now (bytes .entry)) ⌝ }
+    ensures fits { λ r. ⌜ passed r ≤ length (now (bytes .entry)) ⌝ }
 {
     match header_of(bytes) {
         Header::Noise => Start::Noise,
@@ -97,7 +102,8 @@ pub fn start_of(bytes: &[u8]) -> Start<'_>
 // The bytes from a place on.
 fn from(bytes: &[u8], place: usize) -> &[u8]
     requires { ⌜ place ≤ length (now bytes) ⌝ }
-    ensures { λ r. ⌜ now r ≡ drop place (now (bytes .entry)) ⌝ }
+    ensures value { λ r. ⌜ now r ≡ drop place (now (bytes .entry)) ⌝ }
+    ensures len { λ r. ⌜ place + length (now r) ≡ length (now (bytes .entry)) ⌝ }
 {
     &bytes[place..]
 }
@@ -139,5 +145,75 @@ pub fn find(bytes: &[u8]) -> Found<'_>
         noise: bytes.len(),
         frame: None,
         rest: from(bytes, bytes.len()),
+    }
+}
+
+// A heard frame, and the place of its first byte.
+#[derive(Clone, Copy, Debug)]
+pub struct Heard<'a> {
+    pub place: usize,
+    pub frame: Frame<'a>,
+}
+
+// What a run of bytes holds: the frames heard, in order; how many bytes were noise; the undecided bytes at the end, and their place.
+#[derive(Drop, Debug)]
+pub struct Listing<'a> {
+    pub frames: Vec<Heard<'a>>,
+    pub noise: usize,
+    pub rest: &'a [u8],
+    pub rest_place: usize,
+}
+
+// What stands at a place, with the check bytes taken from the running sums.
+fn start_at<'a>(bytes: &'a [u8], running: &[CheckBytes], place: usize) -> Start<'a>
+    requires within { ⌜ place ≤ length (now bytes) ⌝ }
+    requires summed { ⌜ now running ≡ runningSums noSums (now bytes) ⌝ }
+    requires len { ⌜ length (now running) ≡ length (now bytes) ⌝ }
+    ensures value { λ r. ⌜ standingOf r ≡ standing (drop place (now (bytes .entry))) ⌝ }
+    ensures fits { λ r. ⌜ place + passed r ≤ length (now (bytes .entry)) ⌝ }
+{
+    let rest = from(bytes, place);
+    match header_of(rest) {
+        Header::Noise => Start::Noise,
+        Header::Undecided => Start::Undecided,
+        Header::Payload(count) => {
+            if rest.len() <= HEADER + count {
+                return Start::Undecided;
+            }
+            let before = running[place + 1];
+            let behind = running[place + 1 + (4 + count)];
+            closed(rest, count, before.up_to(behind, 4 + count))
+        }
+    }
+}
+
+// The frames that the bytes hold.
+pub fn scan(heap: Global, bytes: &[u8]) -> Result<Listing<'_>, AllocError>
+    ensures value { λ r. ⌜ made r (λ s. scannedOf s ≡ scanned (now (bytes .entry))) ⌝ }
+    ensures promised { λ r. ⌜ made r (λ s. Promised (now (bytes .entry)) (scannedOf s)) ⌝ }
+{
+    let running = running_sums(heap, bytes)?;
+    let mut frames = Vec::new(heap);
+    let mut noise = 0usize;
+    let mut place = 0usize;
+    'places: loop {
+        match start_at(bytes, &running, place) {
+            Start::Noise => {
+                noise += 1;
+                place += 1;
+            }
+            Start::Undecided => {
+                return Ok(Listing {
+                    frames,
+                    noise,
+                    rest: from(bytes, place),
+                    rest_place: place,
+                });
+            }
+            Start::Intact(frame) => {
+                frames.push(Heard { place, frame })?;
+                place += frame.size();
+            }
+        }
     }
 }

@@ -1,7 +1,8 @@
 // The checksum of a frame: two sums over the bytes from the class to the payload's end.
 ghost use mathlib.Core.Path.{_≡_};
 ghost use Prim.Native.Nat.{_<_};
-ghost use Rattle.std.specs.Of.Vec.{vec-items};
+ghost use lib.ListN.{length};
+ghost use Rattle.std.specs.Of.Vec.{vec-items, vec-len};
 ghost use Rattle.std.specs.Vec.{made};
 ghost use Rattle.frame.specs.Checksum.{withByte, noSums, checkBytes, runningSums, sumsBetween};
 use std::alloc::AllocError;
@@ -59,7 +60,7 @@ pub fn check_bytes(bytes: &[u8]) -> CheckBytes
 
 // The sums behind each of the bytes. With them the check bytes of any part cost two look-ups.
 pub(crate) fn running_sums(heap: Global, bytes: &[u8]) -> Result<Vec<CheckBytes>, AllocError>
-    ensures { λ r. ⌜ made r (λ v. vec-items v ≡ runningSums noSums (now (bytes .entry))) ⌝ }
+    ensures { λ r. ⌜ made r (λ v. (vec-items v ≡ runningSums noSums (now (bytes .entry))) × (vec-len v ≡ length (now (bytes .entry)))) ⌝ }
 {
     let mut running = Vec::with_capacity(heap, bytes.len())?;
     let mut sums = CheckBytes::new();

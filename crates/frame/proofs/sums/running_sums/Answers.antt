@@ -8,8 +8,9 @@ use Rattle.frame.proofs.sums.running_sums.Needs as need
 
 pub loop-byte-again : need.loop-byte-again
 loop-byte-again c =
-    running-more (c .loop-byte .sums) (c .args .bytes .now) (c .loop-byte .byte-index) (c .with-sums .result) _ _ _ (omega arith) (c .loop-byte .inv) (c .with-sums .ensures)
-    (pushed (c .with-sums .result ∷ []) refl (c .in-Continue-push .was tt) (c .push .ensures .items))
+    (search needs
+    , running-more (c .loop-byte .sums) (c .args .bytes .now) (c .loop-byte .byte-index) (c .with-sums .result) _ _ _ (omega arith) (c .loop-byte .inv .1) (c .with-sums .ensures)
+    (pushed (c .with-sums .result ∷ []) refl (c .in-Continue-push .was tt) (c .push .ensures .items)))
 
 pub returns : need.returns
 returns c = search (needs, running-all)

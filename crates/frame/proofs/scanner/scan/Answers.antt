@@ -1,0 +1,29 @@
+use borrow.Author.Needs.{needs}
+use native.Mathlib.Omega.{arith}
+use mathlib.Core.List.{[], _∷_, map}
+use mathlib.Core.Path.{refl, sym, ap, subst, _∙_}
+use Rattle.std.specs.Of.Vec.{vec-items}
+use Rattle.std.proofs.shelf.Lists.{map-push}
+use Rattle.std.proofs.shelf.Parts.{pushed}
+use Rattle.frame.specs.Scanning.{Promised}
+use Rattle.frame.specs.Meaning.{messageOf, hearingOf}
+use Rattle.frame.proofs.Scanning.{scan-noise-on, scan-intact-on, scan-ends, promised}
+use Rattle.frame.proofs.scanner.scan.Needs as need
+
+pub places-again-in-Noise : need.places-again-in-Noise
+places-again-in-Noise c =
+    let told = c .in-Noise .ensures tt in
+    (omega arith, omega arith, scan-noise-on (c .args .bytes .now) (c .places .place) _ (c .places .noise) (c .places .inv .2) (told .value))
+
+pub returns-in-Undecided : need.returns-in-Undecided
+returns-in-Undecided c =
+    let told = c .in-Undecided .ensures tt in
+    let same = scan-ends (c .args .bytes .now) (c .places .place) _ (c .places .noise) (c .places .inv .2) _ (told .value) (c .from .ensures .value) in
+    record { value = same; promised = subst (Promised (c .args .bytes .now)) (sym same) (promised (c .args .bytes .now)) }
+
+pub places-again : need.places-again
+places-again c =
+    let told = c .in-Intact .ensures tt in
+    let more = ap (map hearingOf) (pushed (_ ∷ []) refl (c .in-Continue-push .was tt) (c .push .ensures .items)) ∙ map-push hearingOf (vec-items (c .places .frames)) _ in
+    (omega arith, omega arith
+    , scan-intact-on (c .args .bytes .now) (c .places .place) _ (c .places .noise) (c .places .inv .2) (messageOf (c .in-Intact .frame)) (c .size-place .result) _ (told .value) (c .size-place .ensures) more)
