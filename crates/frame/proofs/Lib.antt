@@ -1,3 +1,4 @@
 pub mod Checksum
 pub mod Frames
 pub mod Scanning
+pub mod Written

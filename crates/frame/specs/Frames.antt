@@ -23,6 +23,9 @@ pub record Message : Type 0 where
   pub id : ℕ
   pub payload : List ℕ
 
+abbrev pub carrying : ℕ → ℕ → List ℕ → Message
+carrying class id payload = record { class = class; id = id; payload = payload }
+
 -- how many bytes of a frame stand behind its first: one of the preamble, class, ID, two of the length, the payload, two check bytes
 abbrev pub tailSize : Message → ℕ
 tailSize m = 7 + length (m .payload)

@@ -2,3 +2,4 @@
 pub mod format;
 pub mod scanner;
 pub mod sums;
+pub mod writer;
