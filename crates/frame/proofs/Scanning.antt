@@ -1,17 +1,18 @@
 -- Scanning: behind more bytes, in pieces, in order, with each byte counted once, and with no frame swallowed.
 use mathlib.Core.Path.{_≡_, refl, sym, ap, subst, _∙_}
 use mathlib.Core.Logic.{_⊎_, inl, inr, ⊎-elim}
-use mathlib.Core.List.{List, [], _∷_, _++_, append-nil, append-assoc}
+use mathlib.Core.List.{List, [], _∷_, _++_, map, append-nil, append-assoc}
 use Prim.Native.Nat.{ℕ, zero, suc, _+_, _-_, _*_, _≤_, _<_}
 use native.Mathlib.Nat.{add-zero, zero-add, add-suc, suc-add, not-suc-le-zero, le-of-suc-le-suc}
 use native.Mathlib.Omega.{arith}
 use lib.ListN.{length, take, drop, getD}
 use Rattle.std.specs.declared.option.Option.{Option}
 use Rattle.std.specs.declared.option.Option.the-variants.{Some, None}
-use Rattle.std.proofs.shelf.Lists.{drop-drop, drop-at, drop-all}
+use Rattle.std.proofs.shelf.Lists.{length-drop, drop-drop, drop-at, drop-all}
 use Rattle.std.proofs.shelf.Tests.{cases-lt}
+use Rattle.std.specs.shelf.Lists.{All}
 use Rattle.frame.specs.Frames.{preamble₁, maxPayload, Message, tailSize, sizeOf, bodyOf, frameBytes, Standing, noise, undecided, intact, standing}
-use Rattle.frame.specs.Scanning.{Finding, behindNoise, findingAt, finding, Hearing, Scanned, withNoise, withHeard, waiting, scannedAt, scanFrom, scanned, both, InPieces, Among, Inside, NoneSwallowed, InOrder, sizes, Promised, HeardAs}
+use Rattle.frame.specs.Scanning.{Finding, behindNoise, findingAt, finding, Hearing, Scanned, withNoise, withHeard, waiting, scannedAt, scanFrom, scanned, movedHearing, moved, both, InPieces, Among, Inside, NoneSwallowed, InOrder, sizes, Promised, HeardAs}
 use Rattle.frame.proofs.Frames.{noise-more, intact-more, intact-fits, undecided-short, never-next, standing-none, frame-length, frame-is-intact}
 
 -- Scanning at a byte that is decided
@@ -107,6 +108,15 @@ ordered bs at zero (x ∷ xs) = go (standing (x ∷ xs)) refl (λ k. ordered bs 
     go (intact m) s ih e =
         let same : suc at + tailSize m ≡ at + sizeOf m = omega arith in
         (omega arith, ap standing e ∙ s, subst (λ (n : ℕ). InOrder bs n (scanFrom (suc at) (tailSize m) xs .heard)) same (ih (tailSize m) (drop-next at x xs bs e)))
+
+-- what is intact at a place lies within the bytes
+order-within : (bs : List ℕ) (n : ℕ) (hs : List Hearing) → InOrder bs n hs → All (λ h. h .place + sizeOf (h .message) ≤ length bs) hs
+unfolding InOrder
+order-within bs n [] o = tt
+order-within bs n (h ∷ hs) o =
+    let fits = intact-fits (drop (h .place) bs) (h .message) (o .1) in
+    let len = length-drop (h .place) bs in
+    (omega arith, order-within bs (h .place + sizeOf (h .message)) hs (o .2))
 
 -- Each byte is counted once
 
@@ -221,6 +231,7 @@ promised bs =
     in-pieces = λ more. pieces 0 0 bs more (omega arith);
     none-swallowed = none-swallowed bs;
     in-order = ordered bs 0 0 bs refl;
+    within = order-within bs 0 (scanned bs .heard) (ordered bs 0 0 bs refl);
     accounted = omega arith;
     rest-is = ends bs 0 0 bs refl;
     rest-short = omega arith }
@@ -346,3 +357,17 @@ scan-none bs = sym (both-waiting 0 [] (scanned bs))
 
 pub scan-past : (bs : List ℕ) (place : ℕ) → length bs ≤ place → undecided ≡ standing (drop place bs)
 scan-past bs place le = sym (standing-none (drop place bs) (ap length (drop-all place bs le)))
+
+-- Scanning bytes that begin at another place
+
+pub scan-moved : (p at k : ℕ) (bs : List ℕ) → scanFrom (p + at) k bs ≡ moved p (scanFrom at k bs)
+unfolding scanFrom scannedAt
+scan-moved p at k [] = refl
+scan-moved p at (suc k) (x ∷ xs) = ap (λ n. scanFrom n k xs) (sym (add-suc p at)) ∙ scan-moved p (suc at) k xs
+scan-moved p at zero (x ∷ xs) = go (standing (x ∷ xs)) (λ k. ap (λ n. scanFrom n k xs) (sym (add-suc p at)) ∙ scan-moved p (suc at) k xs)
+  where
+    go : (q : Standing) → ((k : ℕ) → scanFrom (suc (p + at)) k xs ≡ moved p (scanFrom (suc at) k xs))
+        → scannedAt q (p + at) (x ∷ xs) (λ k. scanFrom (suc (p + at)) k xs) ≡ moved p (scannedAt q at (x ∷ xs) (λ k. scanFrom (suc at) k xs))
+    go noise ih = ap withNoise (ih 0)
+    go undecided ih = refl
+    go (intact m) ih = ap (withHeard (record { place = p + at; message = m })) (ih (tailSize m))

@@ -1,11 +1,12 @@
 -- Scanning a run of bytes: which frames are heard in it, where, how many bytes are noise, and what is left undecided.
 use mathlib.Core.Path.{_≡_}
 use mathlib.Core.Logic.{_⊎_}
-use mathlib.Core.List.{List, [], _∷_, _++_}
+use mathlib.Core.List.{List, [], _∷_, _++_, map}
 use Prim.Native.Nat.{ℕ, zero, suc, _+_, _≤_, _<_}
 use lib.ListN.{length, take, drop}
 use Rattle.std.specs.declared.option.Option.{Option}
 use Rattle.std.specs.declared.option.Option.the-variants.{Some, None}
+use Rattle.std.specs.shelf.Lists.{All}
 use Rattle.frame.specs.Frames.{Message, tailSize, sizeOf, Standing, noise, undecided, intact, standing}
 
 -- What a search finds: the bytes of noise up to the first frame heard or undecided place, the frame's message, and what stands behind it
@@ -63,6 +64,13 @@ scanFrom at (suc k) (x ∷ xs) = scanFrom (suc at) k xs
 abbrev pub scanned : List ℕ → Scanned
 scanned bs = scanFrom 0 0 bs
 
+-- the same, of bytes that begin at place p
+abbrev pub movedHearing : ℕ → Hearing → Hearing
+movedHearing p h = record { place = p + h .place; message = h .message }
+
+abbrev pub moved : ℕ → Scanned → Scanned
+moved p s = record { heard = map (movedHearing p) (s .heard); noise = s .noise; rest = s .rest; rest-place = p + s .rest-place }
+
 -- What scanning promises, in the words of places and frames
 
 -- one scan and another that goes on behind it
@@ -101,6 +109,7 @@ pub record Promised (bs : List ℕ) (s : Scanned) : Type 0 where
   pub in-pieces : InPieces bs s
   pub none-swallowed : NoneSwallowed bs (s .heard)
   pub in-order : InOrder bs 0 (s .heard)
+  pub within : All (λ h. h .place + sizeOf (h .message) ≤ length bs) (s .heard)
   -- each byte is counted once: as noise, in a heard frame, or in the undecided rest
   pub accounted : s .noise + sizes (s .heard) + length (s .rest) ≡ length bs
   -- which is the end of the bytes, and so short that it cannot be a whole frame of the largest size

@@ -15,7 +15,7 @@ pub const MAX_PAYLOAD: usize = 772;
 pub const MAX_FRAME: usize = 780;
 
 // What an intact frame carries; the payload is a part of the bytes that it was heard in.
-#[derive(Clone, Copy, Debug)]
+#[derive(Clone, Copy)]
 pub struct Frame<'a> {
     pub class: u8,
     pub id: u8,

@@ -8,7 +8,6 @@ ghost use Rattle.frame.specs.Frames.{standing, atCheckBytes, messageAt};
 ghost use Rattle.frame.specs.Scanning.{finding, scanned, Promised};
 ghost use Rattle.frame.specs.Meaning.{Headed, standingOf, passed, findingOf, scannedOf};
 use crate::format::Frame;
-use crate::format::FrameDebug;
 use crate::format::HEADER;
 use crate::format::MAX_PAYLOAD;
 use crate::format::PREAMBLE;
@@ -19,7 +18,7 @@ use std::alloc::AllocError;
 use std::alloc::Global;
 
 // What stands at the first byte of a run of bytes.
-#[derive(Clone, Copy, Debug)]
+#[derive(Clone, Copy)]
 pub enum Start<'a> {
     // no frame, whatever may follow
     Noise,
@@ -110,7 +109,7 @@ fn from(bytes: &[u8], place: usize) -> &[u8]
 
 // The first frame that is heard, if there is one: the bytes of noise before it, and the bytes behind it.
 // Where there is none, `rest` is what is still undecided.
-#[derive(Clone, Copy, Debug)]
+#[derive(Clone, Copy)]
 pub struct Found<'a> {
     pub noise: usize,
     pub frame: Option<Frame<'a>>,
@@ -149,14 +148,14 @@ pub fn find(bytes: &[u8]) -> Found<'_>
 }
 
 // A heard frame, and the place of its first byte.
-#[derive(Clone, Copy, Debug)]
+#[derive(Clone, Copy)]
 pub struct Heard<'a> {
     pub place: usize,
     pub frame: Frame<'a>,
 }
 
 // What a run of bytes holds: the frames heard, in order; how many bytes were noise; the undecided bytes at the end, and their place.
-#[derive(Drop, Debug)]
+#[derive(Drop)]
 pub struct Listing<'a> {
     pub frames: Vec<Heard<'a>>,
     pub noise: usize,
