@@ -234,6 +234,7 @@ promised bs =
     within = order-within bs 0 (scanned bs .heard) (ordered bs 0 0 bs refl);
     accounted = omega arith;
     rest-is = ends bs 0 0 bs refl;
+    rest-ends = omega arith;
     rest-short = omega arith }
 
 -- Heard as written

@@ -112,8 +112,9 @@ pub record Promised (bs : List ℕ) (s : Scanned) : Type 0 where
   pub within : All (λ h. h .place + sizeOf (h .message) ≤ length bs) (s .heard)
   -- each byte is counted once: as noise, in a heard frame, or in the undecided rest
   pub accounted : s .noise + sizes (s .heard) + length (s .rest) ≡ length bs
-  -- which is the end of the bytes, and so short that it cannot be a whole frame of the largest size
+  -- which is the end of the bytes, and shorter than the largest frame
   pub rest-is : s .rest ≡ drop (s .rest-place) bs
+  pub rest-ends : s .rest-place + length (s .rest) ≡ length bs
   pub rest-short : length (s .rest) < 780
 
 -- The bytes are heard as one frame with this message, at place 0, with no noise and nothing left; and with more bytes behind them scanning
