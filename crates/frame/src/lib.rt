@@ -34,5 +34,6 @@ pub use writer::WriteFault;
 pub use writer::WriteFaultDebug;
 pub use writer::WriteFaultDisplay;
 pub use writer::WriteFaultEq;
+pub use writer::WriteFaultError;
 pub use writer::WriteFaultPartialEq;
 pub use writer::write_frame;

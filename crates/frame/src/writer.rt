@@ -12,6 +12,7 @@ use crate::format::HEADER;
 use crate::format::MAX_PAYLOAD;
 use crate::format::PREAMBLE;
 use crate::sums::check_bytes;
+use std::error::Error;
 use std::fmt;
 
 // Why a frame was not written.
@@ -30,6 +31,8 @@ pub impl fmt::Display for WriteFault as WriteFaultDisplay {
         }
     }
 }
+
+pub impl Error for WriteFault as WriteFaultError {}
 
 // Writes bytes from a place on; answers the place behind them.
 fn put(out: &mut [u8], place: usize, bytes: &[u8]) -> usize

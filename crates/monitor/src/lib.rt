@@ -10,4 +10,6 @@ pub use row::Row;
 pub use row::RowDisplay;
 pub use state::Monitor;
 pub use state::calls::FeedFault;
+pub use state::calls::FeedFaultDebug;
 pub use state::calls::FeedFaultDisplay;
+pub use state::calls::FeedFaultError;

@@ -12,10 +12,11 @@ use frame::Heard;
 use frame::scan;
 use std::alloc::AllocError;
 use std::alloc::Global;
+use std::error::Error;
 use std::fmt;
 
 // Why a piece was not taken.
-#[derive(Clone, Copy)]
+#[derive(Clone, Copy, Debug)]
 pub enum FeedFault {
     // the line would have 2^64 bytes or more, so that places could no longer be told
     LineTooLong,
@@ -30,6 +31,8 @@ pub impl fmt::Display for FeedFault as FeedFaultDisplay {
         }
     }
 }
+
+pub impl Error for FeedFault as FeedFaultError {}
 
 // The row of a frame that was heard behind `place`.
 fn row_of(place: u64, heard: &Heard<'_>) -> Row
