@@ -255,6 +255,9 @@ heard-as-written m few = record {
 
 -- A search, byte by byte
 
+pub scan-past : (bs : List ℕ) (place : ℕ) → length bs ≤ place → undecided ≡ standing (drop place bs)
+scan-past bs place le = sym (standing-none (drop place bs) (ap length (drop-all place bs le)))
+
 finding-noise : (bs : List ℕ) → standing bs ≡ noise → finding bs ≡ behindNoise (finding (drop 1 bs))
 unfolding finding findingAt standing
 finding-noise [] e = let z : _≡_ {A = ℕ} 0 1 = cc in absurd (omega arith)
@@ -291,25 +294,23 @@ module _ (bs : List ℕ) (i : ℕ) (rest : List ℕ) (is : rest ≡ drop i bs) (
       ∙ ap (λ (xs : List ℕ). behindAll i (behindNoise (finding xs))) (sym (ap (drop 1) is ∙ drop-drop 1 i bs))
       ∙ found _ (finding-noise rest (sym e))
 
-  pub find-undecided : undecided ≡ standing rest → record { skipped = i; message = None; rest = rest } ≡ finding bs
+  pub find-undecided : undecided ≡ standing rest → record { skipped = i; message = None; rest = drop i bs } ≡ finding bs
   unfolding counting
-  find-undecided e = ap (counting None rest) (sym (add-zero i)) ∙ found _ (finding-undecided rest (sym e))
+  find-undecided e =
+      ap (counting None (drop i bs)) (sym (add-zero i)) ∙ ap (λ (xs : List ℕ). counting None xs (i + 0)) (sym is) ∙ found _ (finding-undecided rest (sym e))
 
-  pub find-intact : (m : Message) (n : ℕ) (behind : List ℕ) → intact m ≡ standing rest → n ≡ sizeOf m → behind ≡ drop n rest → record { skipped = i; message = Some m; rest = behind } ≡ finding bs
+  pub find-intact : (m : Message) → intact m ≡ standing rest → record { skipped = i; message = Some m; rest = drop (i + sizeOf m) bs } ≡ finding bs
   unfolding counting
-  find-intact m n behind e size b =
-      let all : behind ≡ drop (sizeOf m) rest = b ∙ ap (λ k. drop k rest) size in
-      ap (counting (Some m) behind) (sym (add-zero i)) ∙ ap (λ (xs : List ℕ). counting (Some m) xs (i + 0)) all ∙ found _ (finding-intact rest m (sym e))
+  find-intact m e =
+      let all : drop (i + sizeOf m) bs ≡ drop (sizeOf m) rest = sym (ap (drop (sizeOf m)) is ∙ drop-drop (sizeOf m) i bs) in
+      ap (counting (Some m) (drop (i + sizeOf m) bs)) (sym (add-zero i)) ∙ ap (λ (xs : List ℕ). counting (Some m) xs (i + 0)) all ∙ found _ (finding-intact rest m (sym e))
 
 pub find-none : (bs : List ℕ) → behindAll 0 (finding bs) ≡ finding bs
 unfolding counting
 find-none bs = ap (counting (finding bs .message) (finding bs .rest)) (zero-add (finding bs .skipped))
 
-pub find-end : (bs : List ℕ) (i : ℕ) (rest : List ℕ) → length bs ≤ i → rest ≡ drop (length bs) bs → behindAll i (finding (drop i bs)) ≡ finding bs
-    → record { skipped = i; message = None; rest = rest } ≡ finding bs
-find-end bs i rest le is inv =
-    let none : rest ≡ [] = is ∙ drop-all (length bs) bs (omega arith) in
-    find-undecided bs i rest (none ∙ sym (drop-all i bs le)) inv (sym (standing-none rest (ap length none)))
+pub find-end : (bs : List ℕ) (i : ℕ) → length bs ≤ i → behindAll i (finding (drop i bs)) ≡ finding bs → record { skipped = i; message = None; rest = drop i bs } ≡ finding bs
+find-end bs i le inv = find-undecided bs i (drop i bs) refl inv (scan-past bs i le)
 
 -- Scanning whole bytes, place by place
 
@@ -355,9 +356,6 @@ module _ (bs : List ℕ) (place : ℕ) (hs : List Hearing) (n : ℕ) (inv : both
 
 pub scan-none : (bs : List ℕ) → both (soFar [] 0) (scanFrom 0 0 bs) ≡ scanned bs
 scan-none bs = sym (both-waiting 0 [] (scanned bs))
-
-pub scan-past : (bs : List ℕ) (place : ℕ) → length bs ≤ place → undecided ≡ standing (drop place bs)
-scan-past bs place le = sym (standing-none (drop place bs) (ap length (drop-all place bs le)))
 
 -- Scanning bytes that begin at another place
 

@@ -5,8 +5,8 @@ ghost use lib.ListN.{length, drop};
 ghost use Rattle.std.specs.Vec.{made};
 ghost use Rattle.frame.specs.Checksum.{noSums, runningSums};
 ghost use Rattle.frame.specs.Frames.{standing, atCheckBytes, messageAt};
-ghost use Rattle.frame.specs.Scanning.{finding, scanned, Promised};
-ghost use Rattle.frame.specs.Meaning.{Headed, standingOf, passed, findingOf, scannedOf};
+ghost use Rattle.frame.specs.Scanning.{finding, scanned, Promised, Passes};
+ghost use Rattle.frame.specs.Meaning.{Headed, standingOf, passed, Stopped, findingOf, passedBy, scannedOf};
 use crate::format::Frame;
 use crate::format::HEADER;
 use crate::format::MAX_PAYLOAD;
@@ -116,34 +116,41 @@ pub struct Found<'a> {
     pub rest: &'a [u8],
 }
 
+// Where a search ends: behind so many bytes of noise, at a frame or at an undecided place.
+enum Stop<'a> {
+    Undecided(usize),
+    Heard(usize, Frame<'a>),
+}
+
+// Goes over the noise to the first frame heard or undecided place.
+fn seek(bytes: &[u8]) -> Stop<'_>
+    ensures { λ r. ⌜ Stopped (now (bytes .entry)) r ⌝ }
+{
+    for noise in 0..bytes.len() {
+        match start_of(from(bytes, noise)) {
+            Start::Noise => {}
+            Start::Undecided => return Stop::Undecided(noise),
+            Start::Intact(frame) => return Stop::Heard(noise, frame),
+        }
+    }
+    Stop::Undecided(bytes.len())
+}
+
 // Noise up to the first frame heard or undecided place, and that frame.
 pub fn find(bytes: &[u8]) -> Found<'_>
     ensures { λ r. ⌜ findingOf r ≡ finding (now (bytes .entry)) ⌝ }
 {
-    for noise in 0..bytes.len() {
-        let rest = from(bytes, noise);
-        match start_of(rest) {
-            Start::Noise => {}
-            Start::Undecided => {
-                return Found {
-                    noise,
-                    frame: None,
-                    rest,
-                };
-            }
-            Start::Intact(frame) => {
-                return Found {
-                    noise,
-                    frame: Some(frame),
-                    rest: from(rest, frame.size()),
-                };
-            }
-        }
-    }
-    Found {
-        noise: bytes.len(),
-        frame: None,
-        rest: from(bytes, bytes.len()),
+    match seek(bytes) {
+        Stop::Undecided(noise) => Found {
+            noise,
+            frame: None,
+            rest: from(bytes, noise),
+        },
+        Stop::Heard(noise, frame) => Found {
+            noise,
+            frame: Some(frame),
+            rest: from(bytes, noise + frame.size()),
+        },
     }
 }
 
@@ -186,10 +193,17 @@ fn start_at<'a>(bytes: &'a [u8], running: &[CheckBytes], place: usize) -> Start<
     }
 }
 
-// The frames that the bytes hold.
-pub fn scan(heap: Global, bytes: &[u8]) -> Result<Listing<'_>, AllocError>
-    ensures value { λ r. ⌜ made r (λ s. scannedOf s ≡ scanned (now (bytes .entry))) ⌝ }
-    ensures promised { λ r. ⌜ made r (λ s. Promised (now (bytes .entry)) (scannedOf s)) ⌝ }
+// What was heard up to the undecided place where scanning ended.
+#[derive(Drop)]
+struct Passed<'a> {
+    frames: Vec<Heard<'a>>,
+    noise: usize,
+    place: usize,
+}
+
+// Goes from place to place up to the first that is undecided.
+fn pass(heap: Global, bytes: &[u8]) -> Result<Passed<'_>, AllocError>
+    ensures { λ r. ⌜ made r (λ p. Passes (now (bytes .entry)) (passedBy (now (bytes .entry)) p) (p .place)) ⌝ }
 {
     let running = running_sums(heap, bytes)?;
     let mut frames = Vec::new(heap);
@@ -202,11 +216,10 @@ pub fn scan(heap: Global, bytes: &[u8]) -> Result<Listing<'_>, AllocError>
                 place += 1;
             }
             Start::Undecided => {
-                return Ok(Listing {
+                return Ok(Passed {
                     frames,
                     noise,
-                    rest: from(bytes, place),
-                    rest_place: place,
+                    place,
                 });
             }
             Start::Intact(frame) => {
@@ -215,4 +228,22 @@ pub fn scan(heap: Global, bytes: &[u8]) -> Result<Listing<'_>, AllocError>
             }
         }
     }
+}
+
+// The frames that the bytes hold.
+pub fn scan(heap: Global, bytes: &[u8]) -> Result<Listing<'_>, AllocError>
+    ensures value { λ r. ⌜ made r (λ l. scannedOf l ≡ scanned (now (bytes .entry))) ⌝ }
+    ensures promised { λ r. ⌜ made r (λ l. Promised (now (bytes .entry)) (scannedOf l)) ⌝ }
+{
+    let Passed {
+        frames,
+        noise,
+        place,
+    } = pass(heap, bytes)?;
+    Ok(Listing {
+        frames,
+        noise,
+        rest: from(bytes, place),
+        rest_place: place,
+    })
 }

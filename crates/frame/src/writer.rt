@@ -5,7 +5,7 @@ ghost use Prim.Native.Nat.{_+_, _≤_};
 ghost use lib.ListN.{length, take};
 ghost use Rattle.std.specs.Results.{isOk};
 ghost use Rattle.std.specs.Vec.{made};
-ghost use Rattle.frame.specs.Frames.{carrying, frameBytes};
+ghost use Rattle.frame.specs.Frames.{maxPayload, carrying, sizeOf, frameBytes};
 ghost use Rattle.frame.specs.Scanning.{HeardAs};
 ghost use Rattle.frame.specs.Written.{patched, inFront, written};
 use crate::format::HEADER;
@@ -45,6 +45,22 @@ fn put(out: &mut [u8], place: usize, bytes: &[u8]) -> usize
     next
 }
 
+// Writes the frame into a buffer that is long enough.
+fn put_frame(out: &mut [u8], class: u8, id: u8, payload: &[u8]) -> usize
+    requires few { ⌜ length (now payload) ≤ maxPayload ⌝ }
+    requires room { ⌜ sizeOf (carrying class id (now payload)) ≤ length (now out) ⌝ }
+    ensures value { λ r. ⌜ r ≡ sizeOf (carrying class id (now (payload .entry))) ⌝ }
+    ensures out { λ _. ⌜ now (out .exit) ≡ inFront (frameBytes (carrying class id (now (payload .entry)))) (now (out .entry)) ⌝ }
+    ensures heard { λ r. ⌜ HeardAs (carrying class id (now (payload .entry))) (take r (now (out .exit))) ⌝ }
+{
+    let low = (payload.len() % 256) as u8;
+    let high = (payload.len() / 256) as u8;
+    let header = put(out, 0, &[PREAMBLE[0], PREAMBLE[1], class, id, low, high]);
+    let end = put(out, header, payload);
+    let sums = check_bytes(&out[2..end]);
+    put(out, end, &[sums.a, sums.b])
+}
+
 // Writes the frame with this class, ID and payload at the start of the buffer; answers how many bytes it has.
 // A refusal leaves the buffer as it was.
 pub fn write_frame(out: &mut [u8], class: u8, id: u8, payload: &[u8]) -> Result<usize, WriteFault>
@@ -52,17 +68,11 @@ pub fn write_frame(out: &mut [u8], class: u8, id: u8, payload: &[u8]) -> Result<
     ensures out { λ r. ⌜ now (out .exit) ≡ cond (isOk r) (inFront (frameBytes (carrying class id (now (payload .entry)))) (now (out .entry))) (now (out .entry)) ⌝ }
     ensures heard { λ r. ⌜ made r (λ n. HeardAs (carrying class id (now (payload .entry))) (take n (now (out .exit)))) ⌝ }
 {
-    let count = payload.len();
-    if count > MAX_PAYLOAD {
+    if payload.len() > MAX_PAYLOAD {
         return Err(WriteFault::PayloadTooLong);
     }
-    if out.len() < HEADER + count + 2 {
+    if out.len() < HEADER + payload.len() + 2 {
         return Err(WriteFault::BufferTooShort);
     }
-    let low = (count % 256) as u8;
-    let high = (count / 256) as u8;
-    let header = put(out, 0, &[PREAMBLE[0], PREAMBLE[1], class, id, low, high]);
-    let end = put(out, header, payload);
-    let sums = check_bytes(&out[2..end]);
-    Ok(put(out, end, &[sums.a, sums.b]))
+    Ok(put_frame(out, class, id, payload))
 }

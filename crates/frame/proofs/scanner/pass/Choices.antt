@@ -6,7 +6,7 @@ use Rattle.std.specs.Of.Vec.{vec-items}
 use Rattle.frame.specs.Scanning.{both, scanFrom, scanned}
 use Rattle.frame.specs.Meaning.{hearingOf}
 use Rattle.frame.proofs.Scanning.{soFar}
-use Rattle.frame.proofs.scanner.scan.Given as given
+use Rattle.frame.proofs.scanner.pass.Given as given
 
 abbrev pub Inv-places : given.InvT-places
 Inv-places l =

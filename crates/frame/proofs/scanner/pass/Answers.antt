@@ -8,7 +8,7 @@ use Rattle.std.proofs.shelf.Parts.{pushed}
 use Rattle.frame.specs.Scanning.{Promised}
 use Rattle.frame.specs.Meaning.{messageOf, hearingOf}
 use Rattle.frame.proofs.Scanning.{scan-noise-on, scan-intact-on, scan-ends, promised}
-use Rattle.frame.proofs.scanner.scan.Needs as need
+use Rattle.frame.proofs.scanner.pass.Needs as need
 
 pub places-again-in-Noise : need.places-again-in-Noise
 places-again-in-Noise c =
@@ -18,8 +18,8 @@ places-again-in-Noise c =
 pub returns-in-Undecided : need.returns-in-Undecided
 returns-in-Undecided c =
     let told = c .in-Undecided .ensures tt in
-    let same = scan-ends (c .args .bytes .now) (c .places .place) _ (c .places .noise) (c .places .inv .2) _ (told .value) (c .from .ensures .value) in
-    record { value = same; promised = subst (Promised (c .args .bytes .now)) (sym same) (promised (c .args .bytes .now)) }
+    let same = scan-ends (c .args .bytes .now) (c .places .place) _ (c .places .noise) (c .places .inv .2) _ (told .value) refl in
+    record { within = c .places .inv .0; value = same; keeps = subst (Promised (c .args .bytes .now)) (sym same) (promised (c .args .bytes .now)) }
 
 pub places-again : need.places-again
 places-again c =

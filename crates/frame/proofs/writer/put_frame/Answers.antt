@@ -1,12 +1,8 @@
 use borrow.Author.Needs.{needs}
 use native.Mathlib.Omega.{arith}
-use mathlib.Core.Path.{refl}
-use Prim.Native.Nat.{_≤_, _+_}
-use lib.ListN.{length}
-use Rattle.std.proofs.shelf.Ways.{tells}
-use Rattle.frame.specs.Frames.{carrying, sizeOf, maxPayload}
+use Rattle.frame.specs.Frames.{carrying}
 use Rattle.frame.proofs.Written.{frame-written, heard-in-front}
-use Rattle.frame.proofs.writer.write_frame.Needs as need
+use Rattle.frame.proofs.writer.put_frame.Needs as need
 
 pub returns : need.returns
 returns c =
@@ -14,6 +10,6 @@ returns c =
     let out = frame-written m (c .args .out .now) (c .put-header .last .out) (c .put-end .last .out) (omega arith) (c .put-header .ensures .out) (search needs)
         (c .put .last .out) (c .check-bytes-sums .result) _ (c .put-end .result) (omega arith) (c .check-bytes-sums .ensures) (omega arith) (c .put .ensures .out) in
     record {
-    value = search needs;
+    value = omega arith;
     out = out;
-    heard = heard-in-front m (c .put .last .out) (c .args .out .now) (c .put .result) (omega arith) out (omega arith) }
+    heard = heard-in-front m (c .put .last .out) (c .args .out .now) (c .put .result) (c .pre .few) out (omega arith) }

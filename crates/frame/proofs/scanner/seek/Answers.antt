@@ -1,6 +1,6 @@
 use borrow.Author.Needs.{needs}
 use Rattle.frame.proofs.Scanning.{find-none, find-noise, find-undecided, find-intact, find-end}
-use Rattle.frame.proofs.scanner.find.Needs as need
+use Rattle.frame.proofs.scanner.seek.Needs as need
 
 pub loop-noise-holds : need.loop-noise-holds
 loop-noise-holds c = search (needs, find-none)
