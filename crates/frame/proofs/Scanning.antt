@@ -18,18 +18,17 @@ use Rattle.frame.proofs.Frames.{noise-more, intact-more, intact-fits, undecide
 -- Scanning at a byte that is decided
 
 pub scan-noise : (at : ℕ) (bs : List ℕ) → standing bs ≡ noise → scanFrom at 0 bs ≡ withNoise (scanFrom (suc at) 0 (drop 1 bs))
-unfolding scanFrom scannedAt standing
+unfolding scannedAt standing
 scan-noise at [] e = let z : _≡_ {A = ℕ} 0 1 = cc in absurd (omega arith)
 scan-noise at (x ∷ xs) e = ap (λ p. scannedAt p at (x ∷ xs) (λ k. scanFrom (suc at) k xs)) e
 
 pub scan-undecided : (at : ℕ) (bs : List ℕ) → standing bs ≡ undecided → scanFrom at 0 bs ≡ waiting at bs
-unfolding scanFrom scannedAt standing
+unfolding scannedAt standing
 scan-undecided at [] e = refl
 scan-undecided at (x ∷ xs) e = ap (λ p. scannedAt p at (x ∷ xs) (λ k. scanFrom (suc at) k xs)) e
 
 -- what belongs to a heard frame is passed over
 pub scan-inside : (at k : ℕ) (bs : List ℕ) → k ≤ length bs → scanFrom at k bs ≡ scanFrom (at + k) 0 (drop k bs)
-unfolding scanFrom
 scan-inside at zero bs h = rw add-zero refl
 scan-inside at (suc k) [] h = absurd (not-suc-le-zero h)
 scan-inside at (suc k) (x ∷ xs) h =
@@ -37,7 +36,7 @@ scan-inside at (suc k) (x ∷ xs) h =
 
 pub scan-intact : (at : ℕ) (bs : List ℕ) (m : Message) → standing bs ≡ intact m
     → scanFrom at 0 bs ≡ withHeard (record { place = at; message = m }) (scanFrom (at + sizeOf m) 0 (drop (sizeOf m) bs))
-unfolding scanFrom scannedAt standing
+unfolding scannedAt standing
 scan-intact at [] m e = let z : _≡_ {A = ℕ} 0 1 = cc in absurd (omega arith)
 scan-intact at (x ∷ xs) m e =
     let fits : tailSize m ≤ length xs = le-of-suc-le-suc (intact-fits (x ∷ xs) m e) in
@@ -62,7 +61,7 @@ abbrev Pieces : ℕ → ℕ → List ℕ → List ℕ → Type 0
 Pieces at k bs more = k ≤ length bs → scanFrom at k (bs ++ more) ≡ both (scanFrom at k bs) (scanFrom (scanFrom at k bs .rest-place) 0 (scanFrom at k bs .rest ++ more))
 
 pieces : (at k : ℕ) (bs more : List ℕ) → Pieces at k bs more
-unfolding scanFrom scannedAt
+unfolding scannedAt
 pieces at zero [] more = λ le. both-waiting at [] (scanFrom at 0 more)
 pieces at (suc k) [] more = λ le. absurd (not-suc-le-zero le)
 pieces at (suc k) (x ∷ xs) more = λ le. pieces (suc at) k xs more (le-of-suc-le-suc le)
@@ -79,7 +78,6 @@ pieces at zero (x ∷ xs) more = go (standing (x ∷ xs)) refl (λ k. pieces (su
         ap (λ p. scannedAt p at (x ∷ xs ++ more) (λ k. scanFrom (suc at) k (xs ++ more))) (intact-more (x ∷ xs) more m e)
         ∙ ap (withHeard (record { place = at; message = m })) (ih (tailSize m) (le-of-suc-le-suc (intact-fits (x ∷ xs) m e)))
 
-
 -- In order
 
 in-order-from : (bs : List ℕ) (l n : ℕ) (hs : List Hearing) → l ≤ n → InOrder bs n hs → InOrder bs l hs
@@ -94,7 +92,7 @@ drop-next n x xs bs e =
     rw same (sym (drop-drop 1 n bs) ∙ ap (drop 1) e)
 
 ordered : (bs : List ℕ) (at k : ℕ) (xs : List ℕ) → drop at bs ≡ xs → InOrder bs (at + k) (scanFrom at k xs .heard)
-unfolding scanFrom scannedAt InOrder
+unfolding scannedAt InOrder
 ordered bs at k [] = λ e. tt
 ordered bs at (suc k) (x ∷ xs) =
     λ e. let same : suc at + k ≡ at + suc k = omega arith in
@@ -125,7 +123,7 @@ Counted at k bs =
     k ≤ length bs → (k + (scanFrom at k bs .noise + sizes (scanFrom at k bs .heard) + length (scanFrom at k bs .rest)) ≡ length bs) × (scanFrom at k bs .rest-place + length (scanFrom at k bs .rest) ≡ at + length bs)
 
 counted : (at k : ℕ) (bs : List ℕ) → Counted at k bs
-unfolding scanFrom scannedAt sizes
+unfolding scannedAt sizes
 counted at k [] = λ le. (omega arith, refl)
 counted at (suc k) (x ∷ xs) = λ le. let c = counted (suc at) k xs (le-of-suc-le-suc le) in (omega arith, omega arith)
 counted at zero (x ∷ xs) = go (standing (x ∷ xs)) refl (λ k. counted (suc at) k xs)
@@ -141,7 +139,7 @@ abbrev Ends : List ℕ → Scanned → Type 0
 Ends bs s = s .rest ≡ drop (s .rest-place) bs
 
 ends : (bs : List ℕ) (at k : ℕ) (xs : List ℕ) → drop at bs ≡ xs → Ends bs (scanFrom at k xs)
-unfolding scanFrom scannedAt
+unfolding scannedAt
 ends bs at k [] = λ e. sym e
 ends bs at (suc k) (x ∷ xs) = λ e. ends bs (suc at) k xs (drop-next at x xs bs e)
 ends bs at zero (x ∷ xs) = go (standing (x ∷ xs)) (λ k. ends bs (suc at) k xs)
@@ -155,7 +153,7 @@ ends bs at zero (x ∷ xs) = go (standing (x ∷ xs)) (λ k. ends bs (suc at) k 
 -- The rest is undecided, so it is short
 
 rest-waits : (at k : ℕ) (bs : List ℕ) → standing (scanFrom at k bs .rest) ≡ undecided
-unfolding scanFrom scannedAt standing
+unfolding scannedAt standing
 rest-waits at k [] = refl
 rest-waits at (suc k) (x ∷ xs) = rest-waits (suc at) k xs
 rest-waits at zero (x ∷ xs) = go (standing (x ∷ xs)) refl (λ k. rest-waits (suc at) k xs)
@@ -192,7 +190,7 @@ never-waited x zero xs m u e long = never-next x xs m u e
 never-waited x (suc p) xs m u e long = let short = undecided-short (x ∷ xs) u in omega arith
 
 comes : (at k : ℕ) (bs : List ℕ) (p : ℕ) (m : Message) → Comes at k bs p m
-unfolding scanFrom scannedAt Among
+unfolding scannedAt Among
 comes at k [] p m = λ e long le out. absurd (omega arith)
 comes at (suc k) (x ∷ xs) zero m = λ e long le out. absurd (not-suc-le-zero le)
 comes at (suc k) (x ∷ xs) (suc p) m =
@@ -228,14 +226,15 @@ promised bs =
     let c = counted 0 0 bs (omega arith) in
     let short = undecided-short (scanned bs .rest) (rest-waits 0 0 bs) in
     record {
-    in-pieces = λ more. pieces 0 0 bs more (omega arith);
-    none-swallowed = none-swallowed bs;
-    in-order = ordered bs 0 0 bs refl;
-    within = order-within bs 0 (scanned bs .heard) (ordered bs 0 0 bs refl);
-    accounted = omega arith;
-    rest-is = ends bs 0 0 bs refl;
-    rest-ends = omega arith;
-    rest-short = omega arith }
+      in-pieces = λ more. pieces 0 0 bs more (omega arith);
+      none-swallowed = none-swallowed bs;
+      in-order = ordered bs 0 0 bs refl;
+      within = order-within bs 0 (scanned bs .heard) (ordered bs 0 0 bs refl);
+      accounted = omega arith;
+      rest-is = ends bs 0 0 bs refl;
+      rest-ends = omega arith;
+      rest-short = omega arith;
+    }
 
 -- Heard as written
 
@@ -248,10 +247,10 @@ heard-before m more few =
     ∙ ap (λ (n : ℕ). withHeard (record { place = 0; message = m }) (scanFrom n 0 more)) (omega arith)
 
 pub heard-as-written : (m : Message) → length (m .payload) ≤ maxPayload → HeardAs m (frameBytes m)
-unfolding scanFrom
 heard-as-written m few = record {
-    alone = ap scanned (sym (append-nil (frameBytes m))) ∙ heard-before m [] few;
-    before = λ more. heard-before m more few }
+  alone = ap scanned (sym (append-nil (frameBytes m))) ∙ heard-before m [] few;
+  before = λ more. heard-before m more few;
+}
 
 -- A search, byte by byte
 
@@ -360,7 +359,7 @@ scan-none bs = sym (both-waiting 0 [] (scanned bs))
 -- Scanning bytes that begin at another place
 
 pub scan-moved : (p at k : ℕ) (bs : List ℕ) → scanFrom (p + at) k bs ≡ moved p (scanFrom at k bs)
-unfolding scanFrom scannedAt
+unfolding scannedAt
 scan-moved p at k [] = refl
 scan-moved p at (suc k) (x ∷ xs) = ap (λ n. scanFrom n k xs) (sym (add-suc p at)) ∙ scan-moved p (suc at) k xs
 scan-moved p at zero (x ∷ xs) = go (standing (x ∷ xs)) (λ k. ap (λ n. scanFrom n k xs) (sym (add-suc p at)) ∙ scan-moved p (suc at) k xs)

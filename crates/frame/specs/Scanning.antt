@@ -56,7 +56,7 @@ scannedAt undecided at bs on = waiting at bs
 scannedAt (intact m) at bs on = withHeard (record { place = at; message = m }) (on (tailSize m))
 
 -- at: the place of the first byte; inside: how many bytes from here on belong to a frame that is heard already
-unfoldable pub scanFrom : ℕ → ℕ → List ℕ → Scanned
+abbrev pub scanFrom : ℕ → ℕ → List ℕ → Scanned
 scanFrom at inside [] = waiting at []
 scanFrom at zero (x ∷ xs) = scannedAt (standing (x ∷ xs)) at (x ∷ xs) (λ k. scanFrom (suc at) k xs)
 scanFrom at (suc k) (x ∷ xs) = scanFrom (suc at) k xs

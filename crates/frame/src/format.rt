@@ -12,6 +12,7 @@ pub const HEADER: usize = 6;
 
 // The most payload bytes that a frame may have, and so the most bytes of a frame.
 pub const MAX_PAYLOAD: usize = 772;
+
 pub const MAX_FRAME: usize = 780;
 
 // What an intact frame carries; the payload is a part of the bytes that it was heard in.

@@ -63,10 +63,10 @@ pub(crate) fn running_sums(heap: Global, bytes: &[u8]) -> Result<Vec<CheckBytes>
     ensures { λ r. ⌜ made r (λ v. (vec-items v ≡ runningSums noSums (now (bytes .entry))) × (vec-len v ≡ length (now (bytes .entry)))) ⌝ }
 {
     let mut running = Vec::with_capacity(heap, bytes.len())?;
-    let mut sums = CheckBytes::new();
+    let mut so_far = CheckBytes::new();
     for byte in bytes {
-        sums = sums.with(*byte);
-        running.push(sums)?;
+        so_far = so_far.with(*byte);
+        running.push(so_far)?;
     }
     Ok(running)
 }

@@ -47,19 +47,15 @@ brings p bs l b e pr rows decided noise rest =
     let acc = pr .accounted in
     let end = pr .rest-ends in
     record {
-    rows = all;
-    count = items ∙ heard;
-    decided = ap (λ n. p + n) decided ∙ sym (ap (λ (x : Scanned). x .rest-place) on);
-    noise = noise ∙ sym (ap (λ (x : Scanned). x .noise) on);
-    rest = rest ∙ sym (ap (λ (x : Scanned). x .rest) on);
-    few-rows = omega arith;
-    few-noise = omega arith;
-    within = omega arith }
-
--- before the first byte
-pub begun : (held : List ℕ) → held ≡ [] → record { place = 0; held = held; frames = 0; noise = 0 } ≡ reached []
-unfolding scanFrom
-begun held e = ap (λ (xs : List ℕ). record { place = 0; held = xs; frames = 0; noise = 0 }) e
+      rows = all;
+      count = items ∙ heard;
+      decided = ap (λ n. p + n) decided ∙ sym (ap (λ (x : Scanned). x .rest-place) on);
+      noise = noise ∙ sym (ap (λ (x : Scanned). x .noise) on);
+      rest = rest ∙ sym (ap (λ (x : Scanned). x .rest) on);
+      few-rows = omega arith;
+      few-noise = omega arith;
+      within = omega arith;
+    }
 
 -- one more piece
 pub passed-is : (p q : Progress) (piece : List ℕ) (b : Brought) → Brings (p .place) (p .held ++ piece) b → q ≡ passed p b → q ≡ progressOn p (scannedOn p piece)
@@ -72,9 +68,10 @@ follows-on p piece bs rows e is =
     let s = scanned bs in
     let t = scannedOn (reached bs) piece in
     let all : scanned (bs ++ piece) ≡ both s t = promised bs .in-pieces piece in
-    let count = length-append (s .heard) (t .heard) in
-    (ap (λ (x : Progress). progressOn x (scannedOn x piece)) e
-    ∙ ap (λ n. record { place = t .rest-place; held = t .rest; frames = n; noise = s .noise + t .noise }) (sym count)
-    ∙ sym (ap (λ (x : Scanned). record { place = x .rest-place; held = x .rest; frames = length (x .heard); noise = x .noise }) all)
-    , ap rowsOf all ∙ map-append rowOf (s .heard) (t .heard)
-    ∙ ap (λ (rs : List Row). rowsOf s ++ rs) (sym (is ∙ ap (λ (x : Progress). rowsOf (scannedOn x piece)) e)))
+    let count = length-append (s .heard) (t .heard) in (
+      ap (λ (x : Progress). progressOn x (scannedOn x piece)) e
+          ∙ ap (λ n. record { place = t .rest-place; held = t .rest; frames = n; noise = s .noise + t .noise }) (sym count)
+          ∙ sym (ap (λ (x : Scanned). record { place = x .rest-place; held = x .rest; frames = length (x .heard); noise = x .noise }) all),
+      ap rowsOf all ∙ map-append rowOf (s .heard) (t .heard)
+          ∙ ap (λ (rs : List Row). rowsOf s ++ rs) (sym (is ∙ ap (λ (x : Progress). rowsOf (scannedOn x piece)) e)),
+    )

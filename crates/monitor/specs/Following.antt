@@ -14,6 +14,7 @@ use Rattle.frame.specs.Frames.{Message}
 use Rattle.frame.specs.Scanning.{Hearing, movedHearing, Scanned, scanFrom, scanned}
 use Rattle.frame.specs.declared.scanner.Heard.{Heard}
 use Rattle.frame.specs.Meaning.{hearingOf}
+use Rattle.monitor.specs.declared.row.Counts.{Counts}
 use Rattle.monitor.specs.declared.row.Row.{Row}
 use Rattle.monitor.specs.declared.state.Monitor.{Monitor}
 use Rattle.monitor.specs.declared.state.calls.Brought.{Brought}
@@ -29,6 +30,9 @@ pub record Progress : Type 0 where
 
 abbrev pub progressOf : Monitor → Progress
 progressOf m = record { place = m .place; held = vec-items (m .held); frames = m .frames; noise = m .noise }
+
+abbrev pub countsOf : Progress → Counts
+countsOf p = record { frames = p .frames; noise = p .noise; held = length (p .held) }
 
 -- what is known of a line on which these bytes have come
 abbrev pub reached : List ℕ → Progress

@@ -1,4 +1,5 @@
 // The listing of an input: read in pieces, so that no more than some kilobytes are held, whatever the input's length.
+use monitor::CountsDisplay;
 use monitor::FeedFaultError;
 use monitor::Monitor;
 use monitor::Row;
@@ -29,10 +30,7 @@ pub fn list<R: Read, W: Write>(heap: Global, input: &mut R, out: &mut W) -> Resu
         }
         print_rows(out, monitor.feed(heap, &piece[0..count])?.as_slice())?;
     }
-    let frames = monitor.frames();
-    let noise = monitor.noise();
-    let held = monitor.held();
-    writeln!(out, "frames {frames} noise {noise} held {held}")?;
+    out.writeln(monitor.counts())?;
     Ok(())
 }
 

@@ -5,8 +5,9 @@ ghost use Prim.Native.Nat.{_+_, _<_, _≤_, _^_};
 ghost use lib.ListN.{length};
 ghost use Rattle.std.specs.Of.Vec.{vec-items, vec-len};
 ghost use Rattle.std.specs.Vec.{made};
-ghost use Rattle.monitor.specs.Following.{progressOf, reached, rowAt, Placed, Brings, passed, Fed, Follows};
+ghost use Rattle.monitor.specs.Following.{progressOf, countsOf, reached, rowAt, Placed, Brings, passed, Fed, Follows};
 use super::Monitor;
+use crate::row::Counts;
 use crate::row::Row;
 use frame::Heard;
 use frame::scan;
@@ -115,25 +116,15 @@ impl Monitor {
         }
     }
 
-    // How many frames were heard so far.
-    pub fn frames(&self) -> u64
-        ensures { λ r. ⌜ r ≡ progressOf (now (self .entry)) .frames ⌝ }
+    // The counts so far.
+    pub fn counts(&self) -> Counts
+        ensures { λ r. ⌜ r ≡ countsOf (progressOf (now (self .entry))) ⌝ }
     {
-        self.frames
-    }
-
-    // How many bytes were noise so far.
-    pub fn noise(&self) -> u64
-        ensures { λ r. ⌜ r ≡ progressOf (now (self .entry)) .noise ⌝ }
-    {
-        self.noise
-    }
-
-    // How many bytes at the end are still undecided.
-    pub fn held(&self) -> usize
-        ensures { λ r. ⌜ r ≡ length (progressOf (now (self .entry)) .held) ⌝ }
-    {
-        self.held.len()
+        Counts {
+            frames: self.frames,
+            noise: self.noise,
+            held: self.held.len(),
+        }
     }
 
     // Goes on to the undecided bytes that a piece left.

@@ -24,6 +24,8 @@ returns-in-Undecided c =
 pub places-again : need.places-again
 places-again c =
     let told = c .in-Intact .ensures tt in
-    let more = ap (map hearingOf) (pushed (_ ∷ []) refl (c .in-Continue-push .was tt) (c .push .ensures .items)) ∙ map-push hearingOf (vec-items (c .places .frames)) _ in
-    (omega arith, omega arith
-    , scan-intact-on (c .args .bytes .now) (c .places .place) _ (c .places .noise) (c .places .inv .2) (messageOf (c .in-Intact .frame)) (c .size-place .result) _ (told .value) (c .size-place .ensures) more)
+    let more = ap (map hearingOf) (pushed (_ ∷ []) refl (c .in-Continue-push .was tt) (c .push .ensures .items)) ∙ map-push hearingOf (vec-items (c .places .frames)) _ in (
+      omega arith,
+      omega arith,
+      scan-intact-on (c .args .bytes .now) (c .places .place) _ (c .places .noise) (c .places .inv .2) (messageOf (c .in-Intact .frame)) (c .size-place .result) _ (told .value) (c .size-place .ensures) more,
+    )

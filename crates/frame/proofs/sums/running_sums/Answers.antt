@@ -7,10 +7,11 @@ use Rattle.frame.proofs.Checksum.{running-more, running-all}
 use Rattle.frame.proofs.sums.running_sums.Needs as need
 
 pub loop-byte-again : need.loop-byte-again
-loop-byte-again c =
-    (search needs
-    , running-more (c .loop-byte .sums) (c .args .bytes .now) (c .loop-byte .byte-index) (c .with-sums .result) _ _ _ (omega arith) (c .loop-byte .inv .1) (c .with-sums .ensures)
-    (pushed (c .with-sums .result ∷ []) refl (c .in-Continue-push .was tt) (c .push .ensures .items)))
+loop-byte-again c = (
+  search needs,
+  running-more (c .loop-byte .so-far) (c .args .bytes .now) (c .loop-byte .byte-index) (c .with-so-far .result) _ _ _ (omega arith) (c .loop-byte .inv .1) (c .with-so-far .ensures)
+      (pushed (c .with-so-far .result ∷ []) refl (c .in-Continue-push .was tt) (c .push .ensures .items)),
+)
 
 pub returns : need.returns
 returns c = search (needs, running-all)

@@ -8,4 +8,4 @@ use Rattle.frame.proofs.sums.running_sums.Given as given
 abbrev pub Inv-loop-byte : given.InvT-loop-byte
 Inv-loop-byte l =
     (vec-len (l .running) ≡ l .byte-index)
-    × (vec-items (l .running) ++ runningSums (l .sums) (drop (l .byte-index) (l .bytes)) ≡ runningSums noSums (l .bytes))
+    × (vec-items (l .running) ++ runningSums (l .so-far) (drop (l .byte-index) (l .bytes)) ≡ runningSums noSums (l .bytes))

@@ -8,8 +8,9 @@ pub returns : need.returns
 returns c =
     let m = carrying (c .args .class) (c .args .id) (c .args .payload .now) in
     let out = frame-written m (c .args .out .now) (c .put-header .last .out) (c .put-end .last .out) (omega arith) (c .put-header .ensures .out) (search needs)
-        (c .put .last .out) (c .check-bytes-sums .result) _ (c .put-end .result) (omega arith) (c .check-bytes-sums .ensures) (omega arith) (c .put .ensures .out) in
+    (c .put .last .out) (c .check-bytes-sums .result) _ (c .put-end .result) (omega arith) (c .check-bytes-sums .ensures) (omega arith) (c .put .ensures .out) in
     record {
-    value = omega arith;
-    out = out;
-    heard = heard-in-front m (c .put .last .out) (c .args .out .now) (c .put .result) (c .pre .few) out (omega arith) }
+      value = omega arith;
+      out = out;
+      heard = heard-in-front m (c .put .last .out) (c .args .out .now) (c .put .result) (c .pre .few) out (omega arith);
+    }

@@ -20,11 +20,12 @@ returns-in-Ok c =
     let before = progressOf (c .args .self .now) in
     let piece = c .args .piece .now in
     let told : Brings (before .place) (before .held ++ piece) (c .in-Ok .brought) =
-        subst (λ (held : List ℕ). Brings (before .place) (held ++ piece) (c .in-Ok .brought)) (c .as-slice .ensures .value) (c .in-Ok .ensures tt) in
+    subst (λ (held : List ℕ). Brings (before .place) (held ++ piece) (c .in-Ok .brought)) (c .as-slice .ensures .value) (c .in-Ok .ensures tt) in
     let rows : vec-items (c .pass .result) ≡ rowsOf (scannedOn before piece) = ap vec-items (c .pass .ensures .rows) ∙ told .rows in
     let after = passed-is before (progressOf (c .pass .last .self)) piece (c .in-Ok .brought) told (c .pass .ensures .after) in
     let items = c .args .self .now .held .ok .0 in
     let short : lineLength before piece < 2 ^ 64 = omega arith in
     record {
-    value = (short, rows, after);
-    line = λ bs e. let f = follows-on before piece bs (vec-items (c .pass .result)) e rows in (after ∙ f .0, f .1) }
+      value = (short, rows, after);
+      line = λ bs e. let f = follows-on before piece bs (vec-items (c .pass .result)) e rows in (after ∙ f .0, f .1);
+    }

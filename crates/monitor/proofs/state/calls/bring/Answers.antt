@@ -26,6 +26,6 @@ returns c =
     let listing = c .in-Continue-listing .listing in
     let bytes : List ℕ = c .args .held .now ++ c .args .piece .now in
     let same : c .deref .result .now ≡ bytes =
-        c .deref .ensures .value ∙ pushed (c .args .piece .now) (c .in-Continue-bytes .ensures tt .made .0) (c .in-Continue-extend-from-slice .was tt) (c .extend-from-slice .ensures .items) in
+    c .deref .ensures .value ∙ pushed (c .args .piece .now) (c .in-Continue-bytes .ensures tt .made .0) (c .in-Continue-extend-from-slice .was tt) (c .extend-from-slice .ensures .items) in
     brings (c .args .place) bytes listing _ (told .value ∙ ap scanned same) (subst (λ (bs : List ℕ). Promised bs (scannedOf listing)) same (told .promised))
     (c .in-Continue-rows .ensures tt ∙ ap (map (rowAt (c .args .place))) (c .deref-2 .ensures .value)) refl refl (c .in-Continue-rest .ensures tt .made .0)
