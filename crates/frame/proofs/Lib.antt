@@ -1,4 +1,5 @@
 pub mod Checksum
+mod Examples
 pub mod Frames
 pub mod Scanning
 pub mod Written

@@ -7,7 +7,7 @@ use lib.ListN.{length, take, drop, getD}
 use Rattle.frame.specs.declared.sums.CheckBytes.{CheckBytes}
 use Rattle.frame.specs.Checksum.{checkBytes}
 
--- the two bytes that a frame begins with, and the most payload bytes that it may have
+-- the two bytes that a frame begins with, the most payload bytes that it may have, and so its most bytes
 abbrev pub preamble₁ : ℕ
 preamble₁ = 0xb5
 
@@ -16,6 +16,9 @@ preamble₂ = 0x62
 
 abbrev pub maxPayload : ℕ
 maxPayload = 772
+
+abbrev pub maxFrame : ℕ
+maxFrame = 780
 
 -- what a frame carries
 pub record Message : Type 0 where

@@ -7,7 +7,7 @@ use lib.ListN.{length, take, drop}
 use Rattle.std.specs.declared.option.Option.{Option}
 use Rattle.std.specs.declared.option.Option.the-variants.{Some, None}
 use Rattle.std.specs.shelf.Lists.{All}
-use Rattle.frame.specs.Frames.{Message, tailSize, sizeOf, Standing, noise, undecided, intact, standing}
+use Rattle.frame.specs.Frames.{maxFrame, Message, tailSize, sizeOf, Standing, noise, undecided, intact, standing}
 
 -- What a search finds: the bytes of noise up to the first frame heard or undecided place, the frame's message, and what stands behind it
 -- (where no frame is heard: the undecided bytes).
@@ -115,7 +115,7 @@ pub record Promised (bs : List ℕ) (s : Scanned) : Type 0 where
   -- which is the end of the bytes, and shorter than the largest frame
   pub rest-is : s .rest ≡ drop (s .rest-place) bs
   pub rest-ends : s .rest-place + length (s .rest) ≡ length bs
-  pub rest-short : length (s .rest) < 780
+  pub rest-short : length (s .rest) < maxFrame
 
 -- this is what scanning finds, and it keeps what is promised
 pub record Passes (bs : List ℕ) (s : Scanned) (place : ℕ) : Type 0 where

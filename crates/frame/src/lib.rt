@@ -18,6 +18,7 @@ pub use format::HEADER;
 pub use format::MAX_FRAME;
 pub use format::MAX_PAYLOAD;
 pub use format::PREAMBLE;
+pub use format::TRAILER;
 pub use scanner::Found;
 pub use scanner::Heard;
 pub use scanner::Listing;

@@ -11,6 +11,7 @@ ghost use Rattle.frame.specs.Written.{patched, inFront, written};
 use crate::format::HEADER;
 use crate::format::MAX_PAYLOAD;
 use crate::format::PREAMBLE;
+use crate::format::TRAILER;
 use crate::sums::check_bytes;
 use std::error::Error;
 use std::fmt;
@@ -71,7 +72,7 @@ pub fn write_frame(out: &mut [u8], class: u8, id: u8, payload: &[u8]) -> Result<
     if payload.len() > MAX_PAYLOAD {
         return Err(WriteFault::PayloadTooLong);
     }
-    if out.len() < HEADER + payload.len() + 2 {
+    if out.len() < HEADER + payload.len() + TRAILER {
         return Err(WriteFault::BufferTooShort);
     }
     Ok(put_frame(out, class, id, payload))

@@ -16,7 +16,23 @@ use std::test::*;
 
 // Sets the dynamic model of the address item to 0x42, in RAM.
 const SET: [u8; 17] = [
-    0xb5, 0x62, 0x06, 0x8a, 0x09, 0x00, 0x00, 0x01, 0x00, 0x00, 0x01, 0x00, 0x51, 0x20, 0x42, 0x4e, 0xab,
+    0xb5,
+    0x62,
+    0x06,
+    0x8a,
+    0x09,
+    0x00,
+    0x00,
+    0x01,
+    0x00,
+    0x00,
+    0x01,
+    0x00,
+    0x51,
+    0x20,
+    0x42,
+    0x4e,
+    0xab,
 ];
 
 // A short word for what stands there.
@@ -88,11 +104,20 @@ fn writes_the_set_request() -> Result<(), Fail> {
 #[test]
 fn a_refused_frame_leaves_the_buffer() -> Result<(), Fail> {
     let mut out = [0xeeu8; 16];
-    check_eq(write_frame(&mut out, 0x06, 0x8a, &SET[6..15]), Err(WriteFault::BufferTooShort))?;
+    check_eq(
+        write_frame(&mut out, 0x06, 0x8a, &SET[6..15]),
+        Err(WriteFault::BufferTooShort),
+    )?;
     check(&out == &[0xee; 16])?;
     let mut long = [0xeeu8; 800];
     let payload = [0u8; 773];
-    check_eq(write_frame(&mut long, 0x06, 0x8a, &payload), Err(WriteFault::PayloadTooLong))?;
+    check_eq(
+        write_frame(&mut long, 0x06, 0x8a, &payload),
+        Err(WriteFault::PayloadTooLong),
+    )?;
     check(&long[0..8] == &[0xee; 8])?;
-    check_eq(write_frame(&mut long, 0x06, 0x8a, &payload[0..MAX_PAYLOAD]), Ok(MAX_FRAME))
+    check_eq(
+        write_frame(&mut long, 0x06, 0x8a, &payload[0..MAX_PAYLOAD]),
+        Ok(MAX_FRAME),
+    )
 }

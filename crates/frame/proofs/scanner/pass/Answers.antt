@@ -1,10 +1,9 @@
 use borrow.Author.Needs.{needs}
 use native.Mathlib.Omega.{arith}
-use mathlib.Core.List.{[], _∷_, map}
+use mathlib.Core.List.{map}
 use mathlib.Core.Path.{refl, sym, ap, subst, _∙_}
 use Rattle.std.specs.Of.Vec.{vec-items}
 use Rattle.std.proofs.shelf.Lists.{map-push}
-use Rattle.std.proofs.shelf.Parts.{pushed}
 use Rattle.frame.specs.Scanning.{Promised}
 use Rattle.frame.specs.Meaning.{messageOf, hearingOf}
 use Rattle.frame.proofs.Scanning.{scan-noise-on, scan-intact-on, scan-ends, promised}
@@ -24,7 +23,7 @@ returns-in-Undecided c =
 pub places-again : need.places-again
 places-again c =
     let told = c .in-Intact .ensures tt in
-    let more = ap (map hearingOf) (pushed (_ ∷ []) refl (c .in-Continue-push .was tt) (c .push .ensures .items)) ∙ map-push hearingOf (vec-items (c .places .frames)) _ in (
+    let more = ap (map hearingOf) (c .in-Continue-push .ensures tt .items) ∙ map-push hearingOf (vec-items (c .places .frames)) _ in (
       omega arith,
       omega arith,
       scan-intact-on (c .args .bytes .now) (c .places .place) _ (c .places .noise) (c .places .inv .2) (messageOf (c .in-Intact .frame)) (c .size-place .result) _ (told .value) (c .size-place .ensures) more,

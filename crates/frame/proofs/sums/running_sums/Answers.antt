@@ -1,8 +1,5 @@
 use borrow.Author.Needs.{needs}
 use native.Mathlib.Omega.{arith}
-use mathlib.Core.Path.{refl}
-use mathlib.Core.List.{[], _∷_}
-use Rattle.std.proofs.shelf.Parts.{pushed}
 use Rattle.frame.proofs.Checksum.{running-more, running-all}
 use Rattle.frame.proofs.sums.running_sums.Needs as need
 
@@ -10,7 +7,7 @@ pub loop-byte-again : need.loop-byte-again
 loop-byte-again c = (
   search needs,
   running-more (c .loop-byte .so-far) (c .args .bytes .now) (c .loop-byte .byte-index) (c .with-so-far .result) _ _ _ (omega arith) (c .loop-byte .inv .1) (c .with-so-far .ensures)
-      (pushed (c .with-so-far .result ∷ []) refl (c .in-Continue-push .was tt) (c .push .ensures .items)),
+      (c .in-Continue-push .ensures tt .items),
 )
 
 pub returns : need.returns

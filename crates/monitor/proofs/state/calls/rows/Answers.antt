@@ -4,7 +4,6 @@ use mathlib.Core.List.{[], _∷_, _++_, map}
 use lib.ListN.{take}
 use Rattle.std.proofs.shelf.Elements.{all-getD}
 use Rattle.std.proofs.shelf.Lists.{map-more, take-all}
-use Rattle.std.proofs.shelf.Parts.{pushed}
 use Rattle.monitor.specs.Following.{rowAt}
 use Rattle.monitor.proofs.state.calls.rows.Needs as need
 
@@ -13,7 +12,7 @@ row-of-requires c κs = all-getD _ (c .args .frames .now) (c .loop-heard .heard-
 
 pub loop-heard-again : need.loop-heard-again
 loop-heard-again c =
-    pushed (c .row-of .result ∷ []) (c .loop-heard .inv) (c .in-Continue-push .was tt) (c .push .ensures .items)
+    c .in-Continue-push .ensures tt .items ∙ ap (λ rs. rs ++ c .row-of .result ∷ []) (c .loop-heard .inv)
     ∙ ap (λ r. map (rowAt (c .args .place)) (take (c .loop-heard .heard-index) (c .args .frames .now)) ++ r ∷ []) (c .row-of .ensures)
     ∙ sym (map-more (rowAt (c .args .place)) (c .args .frames .now) (c .loop-heard .heard-index) _ (c .loop-heard-test .taken))
 
