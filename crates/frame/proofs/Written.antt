@@ -3,9 +3,9 @@ use mathlib.Core.Path.{_≡_, refl, sym, ap, subst, _∙_}
 use mathlib.Core.List.{List, [], _∷_, _++_, append-nil, append-assoc}
 use Prim.Native.Nat.{ℕ, zero, suc, _+_, _-_, _*_, _/_, _%_, _<_, _≤_}
 use native.Mathlib.Omega.{arith}
-use native.Mathlib.Nat.{zero-add}
+use native.Mathlib.Nat.{add-zero, zero-add}
 use lib.ListN.{length, drop, take, getD, set}
-use Rattle.std.proofs.shelf.Lists.{length-take-le, length-append, length-drop, take-at, drop-at, drop-drop}
+use Rattle.std.proofs.shelf.Lists.{length-take-le, length-append, length-drop, take-append-drop, take-at, take-more-set, drop-at, drop-drop, drop-set-lt}
 use borrow.Rule.Slice.PartMut.{putMid}
 use Rattle.frame.specs.declared.sums.CheckBytes.{CheckBytes}
 use Rattle.frame.specs.Checksum.{checkBytes}
@@ -20,6 +20,24 @@ unfolding patched
 length-patched place bs old h =
     let t = length-take-le place old (omega arith) in
     simp (length-append, length-drop) (omega arith)
+
+-- no byte, and one byte more
+pub patched-nil : (place : ℕ) (old : List ℕ) → patched place [] old ≡ old
+unfolding patched
+patched-nil place old = rw add-zero (take-append-drop place old)
+
+pub patched-cons : (place b : ℕ) (bs old : List ℕ) → place < length old → patched (place + 1) bs (set old place b) ≡ patched place (b ∷ bs) old
+unfolding patched
+patched-cons place b bs old lt =
+    let e : place + suc (length bs) ≡ place + 1 + length bs = omega arith in
+    let t = take-more-set old place b lt in
+    let d = drop-set-lt (place + 1 + length bs) old place b (omega arith) in
+    rw (t, d, e) (append-assoc (take place old) (b ∷ []) (bs ++ drop (place + 1 + length bs) old))
+
+-- what stands from the place on
+pub drop-patched : (place : ℕ) (bs old : List ℕ) → place ≤ length old → drop place (patched place bs old) ≡ bs ++ drop (place + length bs) old
+unfolding patched
+drop-patched place bs old le = drop-at (take place old) (bs ++ drop (place + length bs) old) place (length-take-le place old le)
 
 -- one run of bytes behind another
 pub patched-append : (place : ℕ) (xs ys old : List ℕ) → place + length xs ≤ length old → patched (place + length xs) ys (patched place xs old) ≡ patched place (xs ++ ys) old
