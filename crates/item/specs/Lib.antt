@@ -1,3 +1,4 @@
+pub mod Catalogues
 pub mod Keys
 pub mod Selectors
 pub mod Values

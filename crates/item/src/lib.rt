@@ -4,10 +4,20 @@
 // selector.rt   numbers of the wire that name one item, a group's items or all
 // value.rt      little-endian numbers, and values by their size
 // catalogue.rt  the entries of a catalogue, their check, the finder
+mod catalogue;
 mod key;
 mod selector;
 mod value;
 
+pub use catalogue::BITS;
+pub use catalogue::CatalogueFault;
+pub use catalogue::Entry;
+pub use catalogue::MAX_ITEMS;
+pub use catalogue::SIGNED;
+pub use catalogue::UNSIGNED;
+pub use catalogue::check_catalogue;
+pub use catalogue::find_item;
+pub use catalogue::next_named;
 pub use key::Size;
 pub use key::fits_key;
 pub use key::is_well_formed;
