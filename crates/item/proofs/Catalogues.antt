@@ -26,7 +26,6 @@ use Rattle.item.specs.Catalogues.{isSound, entryFault, unlessFault, entriesChe
 
 module _ (es : List Entry) (place below : ℕ) (inv : entriesChecked place below (drop place es) ≡ entriesChecked 0 0 es) where
   checked-on : place < length es → unlessFault (entryFault place below (getD es place blank)) (entriesChecked (suc place) (getD es place blank .key) (drop (place + 1) es)) ≡ entriesChecked 0 0 es
-  unfolding entriesChecked
   checked-on lt = sym (at-drop-more (entriesChecked place below) es place blank lt) ∙ inv
 
   pub checked-fault : (f : CatalogueFault) → place < length es → Some f ≡ entryFault place below (getD es place blank) → Err f ≡ entriesChecked 0 0 es
@@ -39,7 +38,6 @@ module _ (es : List Entry) (place below : ℕ) (inv : entriesChecked place below
       ∙ ap (λ (o : Option CatalogueFault). unlessFault o (entriesChecked (suc place) (getD es place blank .key) (drop (place + 1) es))) e ∙ checked-on lt
 
   pub checked-all : length es ≤ place → Ok tt ≡ entriesChecked 0 0 es
-  unfolding entriesChecked
   checked-all le = sym (at-drop-all (entriesChecked place below) es place le) ∙ inv
 
 -- What an accepted catalogue is
@@ -57,7 +55,7 @@ good-entry place below e true false false rest h = absurd (err≢ok _ h)
 good-entry place below e false o s rest h = absurd (err≢ok _ h)
 
 listed-from : (place below : ℕ) (es : List Entry) → entriesChecked place below es ≡ Ok tt → Listed below es
-unfolding entriesChecked Listed
+unfolding Listed
 listed-from place below [] h = tt
 listed-from place below (e ∷ es) h =
     let g = good-entry place below e (wellFormed (e .key)) (leb (e .key) below) (isSound e) (entriesChecked (suc place) (e .key) es) h in
@@ -84,13 +82,13 @@ only-once es h =
       distinct = λ i j in-i in-j same.
           ⊎-elim (λ e. e)
           (⊎-elim (λ lt. let a = ascends 0 es i j l lt in-j in absurd (omega arith)) (λ lt. let a = ascends 0 es j i l lt in-i in absurd (omega arith)))
-          (cases-order i j) }
+          (cases-order i j);
+    }
 
 -- The walk over the named items, which has passed those before this place
 
 module _ (s : Selector) (from place : ℕ) (es : List Entry) (inv : namedFrom s place es ≡ namedFrom s from es) where
   named-at : place < length es → cond (names s (getD es place blank .key)) (place ∷ named s (suc place) (drop (place + 1) es)) (named s (suc place) (drop (place + 1) es)) ≡ namedFrom s from es
-  unfolding named
   named-at lt = sym (at-drop-more (named s place) es place blank lt) ∙ inv
 
   next : namedFrom s (place + 1) es ≡ named s (suc place) (drop (place + 1) es)
@@ -106,5 +104,4 @@ module _ (s : Selector) (from place : ℕ) (es : List Entry) (inv : namedFrom s 
       next ∙ ap (λ b. cond b (place ∷ named s (suc place) (drop (place + 1) es)) (named s (suc place) (drop (place + 1) es))) e ∙ named-at lt
 
   pub named-none : length es ≤ place → namedFrom s from es ≡ []
-  unfolding named
   named-none le = sym inv ∙ at-drop-all (named s place) es place le

@@ -64,7 +64,7 @@ read-more bs i n h pos b =
       value = omega (arith, e, h .value);
       small = rw k (byte-below n (getD bs (i - 1) 0) (length bs - i) (h .small) b);
       back = ap (λ w. bytesOf w (n * 256 + getD bs (i - 1) 0)) k ∙ bytes-more (length bs - i) n (getD bs (i - 1) 0) b
-        ∙ ap (λ (xs : List ℕ). getD bs (i - 1) 0 ∷ xs) (h .back ∙ ap (λ m. drop m bs) (sym back)) ∙ sym next;
+          ∙ ap (λ (xs : List ℕ). getD bs (i - 1) 0 ∷ xs) (h .back ∙ ap (λ m. drop m bs) (sym back)) ∙ sym next;
       within = omega (arith, h .within);
     }
 
@@ -122,10 +122,13 @@ pub value-is : (s : Size) (bs p : List ℕ) (n v : ℕ) → p ≡ take (widthOf 
     → (v ≡ valueIn s bs) × ReadAs s bs v
 value-is s bs p n v e long is small back kept =
     let len : length p ≡ widthOf s = ap length e ∙ length-take-le (widthOf s) bs long in
-    let same : v ≡ valueIn s bs = kept ∙ ap (λ m. m % limitOf s) is ∙ ap (λ (q : List ℕ). number q % limitOf s) e in
-    (same, record {
-      fits = subst (λ x. x < limitOf s) (sym kept) (kept-fits s n);
-      written = ap (valueBytes s) kept ∙ kept-bytes s p n len is (subst (λ w. n < 2 ^ (8 * w)) len small) (subst (λ w. bytesOf w n ≡ p) len back) ∙ ap (readBytes s) e })
+    let same : v ≡ valueIn s bs = kept ∙ ap (λ m. m % limitOf s) is ∙ ap (λ (q : List ℕ). number q % limitOf s) e in (
+      same,
+      record {
+        fits = subst (λ x. x < limitOf s) (sym kept) (kept-fits s n);
+        written = ap (valueBytes s) kept ∙ kept-bytes s p n len is (subst (λ w. n < 2 ^ (8 * w)) len small) (subst (λ w. bytesOf w n ≡ p) len back) ∙ ap (readBytes s) e;
+      },
+    )
 
 -- A number is written byte by byte: one turn, and the end
 

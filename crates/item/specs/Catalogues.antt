@@ -74,7 +74,7 @@ unlessFault None rest = rest
 unlessFault (Some f) rest = Err f
 
 -- entry by entry, from this place on, behind an entry with the key `below`
-unfoldable pub entriesChecked : ℕ → ℕ → List Entry → Result (Unit {0}) CatalogueFault
+abbrev pub entriesChecked : ℕ → ℕ → List Entry → Result (Unit {0}) CatalogueFault
 entriesChecked place below [] = Ok tt
 entriesChecked place below (e ∷ es) = let rest : Result (Unit {0}) CatalogueFault = entriesChecked (suc place) (e .key) es in unlessFault (entryFault place below e) rest
 
@@ -124,7 +124,7 @@ FirstWith k es (Some i) = (i < length es) × (getD es i blank .key ≡ k) × ((j
 
 -- The places of the entries that a selector names, in ascending order
 
-unfoldable pub named : Selector → ℕ → List Entry → List ℕ
+abbrev pub named : Selector → ℕ → List Entry → List ℕ
 named s place [] = []
 named s place (e ∷ es) = let rest : List ℕ = named s (suc place) es in cond (names s (e .key)) (place ∷ rest) rest
 

@@ -17,7 +17,9 @@ use std::fmt;
 
 // The kinds of values: unsigned numbers, two's complement numbers, and bits, which have no order and no bounds.
 pub const UNSIGNED: u8 = 0;
+
 pub const SIGNED: u8 = 1;
+
 pub const BITS: u8 = 2;
 
 // The most entries of a catalogue.
@@ -34,7 +36,7 @@ pub struct Entry {
 }
 
 // Why a catalogue is refused, with the place of the first entry at fault.
-#[derive(Clone, Copy)]
+#[derive(Clone, Copy, Debug)]
 pub enum CatalogueFault {
     // none, or more than 128
     EntryCount,
@@ -44,6 +46,26 @@ pub enum CatalogueFault {
     // a kind that there is not, a value that does not fit the size, or a default out of bounds
     Unsound(usize),
 }
+
+pub impl fmt::Display for CatalogueFault as CatalogueFaultDisplay {
+    fn fmt<W: fmt::Write>(&self, f: &mut fmt::Formatter<W>) -> fmt::Result {
+        let entry = self.entry();
+        match self {
+            CatalogueFault::EntryCount => f.write_str("a catalogue has 1 to 128 entries"),
+            CatalogueFault::IllFormedKey(_) => write!(f, "entry {entry}: the key is ill-formed"),
+            CatalogueFault::OutOfOrder(_) => write!(
+                f,
+                "entry {entry}: the key is not above the one before it"
+            ),
+            CatalogueFault::Unsound(_) => write!(
+                f,
+                "entry {entry}: the kind, a value or the default's bounds are wrong"
+            ),
+        }
+    }
+}
+
+pub impl Error for CatalogueFault as CatalogueFaultError {}
 
 impl CatalogueFault {
     // The refusal's number.
@@ -126,7 +148,9 @@ impl Entry {
     fn read_fits(&self) -> bool
         ensures { λ r. ⌜ r ≡ readFits (now (self .entry)) ⌝ }
     {
-        fits_key(self.key, self.default) && (self.kind == BITS || (fits_key(self.key, self.low) && fits_key(self.key, self.high)))
+        fits_key(self.key, self.default)
+            && (self.kind == BITS
+                || (fits_key(self.key, self.low) && fits_key(self.key, self.high)))
     }
 
     // The first thing wrong with the entry, at its place behind an entry with the key `below`.

@@ -4,13 +4,19 @@
 // selector.rt   numbers of the wire that name one item, a group's items or all
 // value.rt      little-endian numbers, and values by their size
 // catalogue.rt  the entries of a catalogue, their check, the finder
+// bench.rt      the catalogue of the worked examples
+mod bench;
 mod catalogue;
 mod key;
 mod selector;
 mod value;
 
+pub use bench::bench_catalogue;
 pub use catalogue::BITS;
 pub use catalogue::CatalogueFault;
+pub use catalogue::CatalogueFaultDebug;
+pub use catalogue::CatalogueFaultDisplay;
+pub use catalogue::CatalogueFaultError;
 pub use catalogue::Entry;
 pub use catalogue::MAX_ITEMS;
 pub use catalogue::SIGNED;

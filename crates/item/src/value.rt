@@ -109,7 +109,12 @@ fn put_value(out: &mut [u8], place: usize, size: Size, value: u64)
 }
 
 // Writes a value from a place of the buffer on; answers the place behind it. A refusal leaves the buffer as it was.
-pub fn write_value(out: &mut [u8], place: usize, size: Size, value: u64) -> Result<usize, ValueFault>
+pub fn write_value(
+    out: &mut [u8],
+    place: usize,
+    size: Size,
+    value: u64,
+) -> Result<usize, ValueFault>
     ensures value { λ r. ⌜ r ≡ valueWritten size value place (length (now (out .entry))) ⌝ }
     ensures out { λ r. ⌜ now (out .exit) ≡ cond (isOk r) (patched place (valueBytes size value) (now (out .entry))) (now (out .entry)) ⌝ }
     ensures back { λ r. ⌜ made r (λ _. valueRead size (drop place (now (out .exit))) ≡ Some value) ⌝ }
