@@ -1,0 +1,31 @@
+// Layers and stores.
+mod absent;
+mod fault;
+mod saver;
+mod setting;
+mod slot;
+mod stack;
+mod table;
+mod traits;
+
+pub use absent::Absent;
+pub use absent::AbsentLayer;
+pub use absent::AbsentStore;
+pub use fault::StoreFault;
+pub use fault::StoreFaultDebug;
+pub use fault::StoreFaultDisplay;
+pub use fault::StoreFaultEq;
+pub use fault::StoreFaultError;
+pub use fault::StoreFaultPartialEq;
+pub use saver::Saver;
+pub use saver::SaverLayer;
+pub use saver::SaverStore;
+pub use setting::Setting;
+pub use stack::Stack;
+pub use stack::StackLayer;
+pub use stack::regrouped;
+pub use table::SlotTable;
+pub use table::calls::SlotLayer;
+pub use table::calls::SlotStore;
+pub use traits::Layer;
+pub use traits::Store;
