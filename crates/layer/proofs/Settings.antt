@@ -12,7 +12,7 @@ use Rattle.std.specs.declared.option.Option.the-variants.{Some, None}
 use Rattle.std.proofs.shelf.Ways.{tells}
 use Rattle.std.proofs.shelf.Tests.{cases-order}
 use Rattle.layer.specs.declared.setting.Setting.{Setting}
-use Rattle.layer.specs.Settings.{setting, valueUnder, withValue, without, merged, least, lesser, keyAbove, Above, Ascends}
+use Rattle.layer.specs.Settings.{isSetting, setting, valueUnder, withValue, without, merged, least, lesser, keyAbove, Above, Ascends}
 
 pub with-below : (k v : ℕ) (s : Setting) (ss : List Setting) → k < s .key → withValue k v (s ∷ ss) ≡ setting k v ∷ s ∷ ss
 with-below k v s ss h = grind (arith, tells)
@@ -153,3 +153,7 @@ with-front x (y ∷ ys) a = with-below (x .key) (x .value) y ys (a .0)
 pub merged-nil : (xs : List Setting) → Ascends xs → merged xs [] ≡ xs
 merged-nil [] a = refl
 merged-nil (x ∷ xs) a = ap (withValue (x .key) (x .value)) (merged-nil xs (ascends-tail (x .key) xs a)) ∙ with-front x xs a
+
+-- no setting at all
+pub none-sound : (k v : ℕ) → valueUnder k [] ≡ Some v → isSetting k v ≡ true
+none-sound k v e = let z : _≡_ {A = ℕ} 0 1 = cc in absurd (omega arith)

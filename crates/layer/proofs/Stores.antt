@@ -14,7 +14,7 @@ use lib.ListN.{length}
 use Rattle.item.specs.Keys.{wellFormed, fitsKey}
 use Rattle.layer.specs.declared.setting.Setting.{Setting}
 use Rattle.layer.specs.Settings.{isSetting, valueUnder}
-use Rattle.layer.specs.Stores.{room, putAnswer}
+use Rattle.layer.specs.Stores.{room, putAnswer, Shows}
 
 -- a key and a value that make a setting
 pub setting-key : (k v : ℕ) → isSetting k v ≡ true → wellFormed k ≡ true
@@ -39,3 +39,7 @@ put-held false k v ss idle sound e =
     let z : _≡_ {A = ℕ} 0 1 = cc in absurd (omega arith)
 put-held true k v ss idle sound e =
     sym (cond-true _ _ _ (setting-key k v sound) ∙ cond-true _ _ _ (setting-fits k v sound) ∙ cond-true _ _ _ (held-room k v ss e))
+
+-- what is not usable and holds nothing
+pub nothing-shows : Shows false []
+nothing-shows = record { few = omega arith; idle = λ e. refl }

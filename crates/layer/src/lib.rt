@@ -1,5 +1,7 @@
 // Layers and stores.
 mod absent;
+mod any;
+mod asking;
 mod fault;
 mod saver;
 mod setting;
@@ -11,6 +13,10 @@ mod traits;
 pub use absent::Absent;
 pub use absent::AbsentLayer;
 pub use absent::AbsentStore;
+pub use any::AnyLayer;
+pub use any::AnyStore;
+pub use any::AnyStoreStore;
+pub use asking::put_then_ask;
 pub use fault::StoreFault;
 pub use fault::StoreFaultDebug;
 pub use fault::StoreFaultDisplay;
@@ -23,7 +29,9 @@ pub use saver::SaverStore;
 pub use setting::Setting;
 pub use stack::Stack;
 pub use stack::StackLayer;
+pub use stack::over_nothing;
 pub use stack::regrouped;
+pub use stack::under_nothing;
 pub use table::SlotTable;
 pub use table::calls::SlotLayer;
 pub use table::calls::SlotStore;

@@ -1,8 +1,8 @@
 // A stack of two layers: the upper layer's value, else the lower's. It nests, and a store inside it is written through its field.
 ghost use mathlib.Core.Path.{_≡_};
+ghost use mathlib.Core.List.{[]};
 ghost use Rattle.layer.specs.Settings.{merged, lesser};
 use crate::absent::Absent;
-use crate::absent::AbsentLayer;
 use crate::traits::Layer;
 
 #[derive(Drop)]
@@ -50,5 +50,24 @@ pub fn regrouped<A: Layer, B: Layer, C: Layer>(s: Stack<Stack<A, B>, C>) -> Stac
     Stack {
         upper: a,
         lower: Stack { upper: b, lower: c },
+    }
+}
+
+// An empty layer is neutral below a layer and above it.
+pub fn over_nothing<L: Layer>(layer: L) -> Stack<L, Absent>
+    ensures { λ r. ⌜ merged (L·Layer .settings (r .upper)) [] ≡ L·Layer .settings layer ⌝ }
+{
+    Stack {
+        upper: layer,
+        lower: Absent,
+    }
+}
+
+pub fn under_nothing<L: Layer>(layer: L) -> Stack<Absent, L>
+    ensures { λ r. ⌜ merged [] (L·Layer .settings (r .lower)) ≡ L·Layer .settings layer ⌝ }
+{
+    Stack {
+        upper: Absent,
+        lower: layer,
     }
 }
