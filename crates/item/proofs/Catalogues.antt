@@ -54,7 +54,7 @@ good-entry place below e true false true rest h = (refl, refl, refl, h)
 good-entry place below e true false false rest h = absurd (err≢ok _ h)
 good-entry place below e false o s rest h = absurd (err≢ok _ h)
 
-listed-from : (place below : ℕ) (es : List Entry) → entriesChecked place below es ≡ Ok tt → Listed below es
+pub listed-from : (place below : ℕ) (es : List Entry) → entriesChecked place below es ≡ Ok tt → Listed below es
 unfolding Listed
 listed-from place below [] h = tt
 listed-from place below (e ∷ es) h =

@@ -1,3 +1,4 @@
+pub mod Catalogued
 pub mod Settings
 pub mod Slots
 pub mod Stores

@@ -1,4 +1,5 @@
 pub mod Any
+pub mod Catalogued
 pub mod Settings
 pub mod Slots
 pub mod Stores

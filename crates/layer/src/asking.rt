@@ -8,7 +8,11 @@ use crate::fault::StoreFault;
 use crate::traits::Store;
 
 // Puts a value and asks for it again: where it was granted, the store holds it.
-pub fn put_then_ask<S: Store>(store: &mut S, key: u32, value: u64) -> Result<Option<u64>, StoreFault>
+pub fn put_then_ask<S: Store>(
+    store: &mut S,
+    key: u32,
+    value: u64,
+) -> Result<Option<u64>, StoreFault>
     ensures asked { λ r. ⌜ made r (λ v. v ≡ Some value) ⌝ }
     ensures after { λ r. ⌜ S·Layer .settings (now (store .exit)) ≡ afterPut (putAnswer (S·Store .usable (now (store .entry))) key value (S·Layer .settings (now (store .entry)))) key value (S·Layer .settings (now (store .entry))) ⌝ }
     ensures refused { λ r. ⌜ isOk r ≡ isOk (putAnswer (S·Store .usable (now (store .entry))) key value (S·Layer .settings (now (store .entry)))) ⌝ }

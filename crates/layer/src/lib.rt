@@ -1,7 +1,20 @@
-// Layers and stores.
+// Layers: what holds settings, and what they mean together. Whatever two stores stand beneath a receiver, it must be right; so a layer *is* the
+// settings that it means, and each implementation shows that meaning once.
+//
+// setting.rt   a value under a key
+// traits.rt    the traits of a readable layer and of a store
+// fault.rt     why a store refuses a write
+// slot.rt, table.rt   a table of 128 slots
+// absent.rt    a place that is not there
+// saver.rt     over any store, puts below only what differs
+// defaults.rt  the defaults of a catalogue
+// stack.rt     one layer over another
+// any.rt       a store that is chosen at run time
+// asking.rt    code over any store
 mod absent;
 mod any;
 mod asking;
+mod defaults;
 mod fault;
 mod saver;
 mod setting;
@@ -17,6 +30,8 @@ pub use any::AnyLayer;
 pub use any::AnyStore;
 pub use any::AnyStoreStore;
 pub use asking::put_then_ask;
+pub use defaults::Defaults;
+pub use defaults::calls::DefaultsLayer;
 pub use fault::StoreFault;
 pub use fault::StoreFaultDebug;
 pub use fault::StoreFaultDisplay;

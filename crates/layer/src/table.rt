@@ -3,7 +3,6 @@ ghost use mathlib.Core.Path.{_≡_};
 ghost use mathlib.Core.Bool.{true};
 ghost use lib.ListN.{length};
 ghost use Rattle.layer.specs.Slots.{apart, sound};
-use crate::slot::FREE;
 use crate::slot::Slot;
 
 pub mod calls;

@@ -11,7 +11,6 @@ ghost use Rattle.layer.specs.Stores.{room};
 use super::SlotTable;
 use crate::fault::StoreFault;
 use crate::slot::FREE;
-use crate::slot::Slot;
 use crate::traits::Layer;
 use crate::traits::Store;
 use item::fits_key;
