@@ -1,2 +1,1 @@
-pub mod Catalogues
 pub mod Values

@@ -1,9 +1,9 @@
 // Catalogues: the bench catalogue, what is wrong with others, and which items are named.
-use item::Entry;
-use item::bench_catalogue;
-use item::check_catalogue;
-use item::find_item;
-use item::next_named;
+use catalogue::Entry;
+use catalogue::bench_catalogue;
+use catalogue::check_catalogue;
+use catalogue::find_item;
+use catalogue::next_named;
 use std::test::*;
 
 // The number and entry of the check's refusal; 0 0 where the catalogue is accepted.

@@ -14,10 +14,10 @@ use Rattle.std.specs.declared.result.Result.the-variants.{Ok, Err}
 use Rattle.std.proofs.shelf.Lists.{at-drop-more, at-drop-all}
 use Rattle.std.proofs.shelf.Tests.{and-parts, eq-eqb, ne-eqb, lt-ltb, le-ltb, cond-true, cond-false, eqb-true}
 use Rattle.item.specs.Keys.{wellFormed, fitsKey}
-use Rattle.item.specs.Catalogues.{kindSuits, readFits, allows, isSound, entriesChecked, blank, Listed}
-use Rattle.item.specs.declared.catalogue.Entry.{Entry}
-use Rattle.item.specs.declared.catalogue.CatalogueFault.{CatalogueFault}
-use Rattle.item.proofs.Catalogues.{listed-from}
+use Rattle.catalogue.specs.Catalogues.{kindSuits, readFits, allows, isSound, entriesChecked, blank, Listed}
+use Rattle.catalogue.specs.declared.entries.Entry.{Entry}
+use Rattle.catalogue.specs.declared.entries.CatalogueFault.{CatalogueFault}
+use Rattle.catalogue.proofs.Catalogues.{listed-from}
 use Rattle.layer.specs.declared.setting.Setting.{Setting}
 use Rattle.layer.specs.Settings.{isSetting, valueUnder, keyAbove, Above, Ascends, Sound}
 use Rattle.layer.specs.Catalogued.{defaultOf, defaultsOf}

@@ -2,8 +2,8 @@
 use mathlib.Core.Bool.{cond}
 use mathlib.Core.List.{List, [], map}
 use Rattle.std.specs.Results.{isOk}
-use Rattle.item.specs.declared.catalogue.Entry.{Entry}
-use Rattle.item.specs.Catalogues.{catalogueChecked}
+use Rattle.catalogue.specs.declared.entries.Entry.{Entry}
+use Rattle.catalogue.specs.Catalogues.{catalogueChecked}
 use Rattle.layer.specs.declared.setting.Setting.{Setting}
 use Rattle.layer.specs.Settings.{setting}
 

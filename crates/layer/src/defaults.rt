@@ -5,8 +5,8 @@ ghost use mathlib.Core.Bool.{true};
 ghost use Prim.Native.Nat.{_≤_};
 ghost use lib.ListN.{length, take};
 ghost use Rattle.std.specs.Results.{isOk};
-ghost use Rattle.item.specs.Catalogues.{entriesChecked};
-use item::Entry;
+ghost use Rattle.catalogue.specs.Catalogues.{entriesChecked};
+use catalogue::Entry;
 
 pub mod calls;
 

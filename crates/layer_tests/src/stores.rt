@@ -1,5 +1,5 @@
 // Each store by the same questions, and layers over one another.
-use item::bench_catalogue;
+use catalogue::bench_catalogue;
 use layer::Absent;
 use layer::AbsentLayer;
 use layer::AbsentStore;

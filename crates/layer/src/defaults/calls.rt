@@ -4,14 +4,14 @@ ghost use mathlib.Core.Bool.{true};
 ghost use Prim.Native.Nat.{_≤_};
 ghost use lib.ListN.{length, take};
 ghost use Rattle.std.specs.Results.{isOk};
-ghost use Rattle.item.specs.Catalogues.{entriesChecked};
+ghost use Rattle.catalogue.specs.Catalogues.{entriesChecked};
 ghost use Rattle.layer.specs.Settings.{valueUnder, keyAbove};
 ghost use Rattle.layer.specs.Catalogued.{defaultsOf, catalogueDefaults};
 use super::Defaults;
 use crate::traits::Layer;
-use item::Entry;
-use item::check_catalogue;
-use item::find_item;
+use catalogue::Entry;
+use catalogue::check_catalogue;
+use catalogue::find_item;
 
 // What stands behind the last entry.
 const NO_ENTRY: Entry = Entry {

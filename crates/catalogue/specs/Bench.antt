@@ -3,9 +3,9 @@ use mathlib.Core.Path.{_≡_}
 use mathlib.Core.List.{List, [], _∷_}
 use Prim.Native.Nat.{ℕ}
 use Rattle.std.specs.declared.result.Result.the-variants.{Ok}
-use Rattle.item.specs.declared.catalogue.Entry.{Entry}
+use Rattle.catalogue.specs.declared.entries.Entry.{Entry}
 use Rattle.item.specs.Selectors.{selectorOf}
-use Rattle.item.specs.Catalogues.{catalogueChecked, named}
+use Rattle.catalogue.specs.Catalogues.{catalogueChecked, named}
 
 abbrev pub entry : ℕ → ℕ → ℕ → ℕ → ℕ → Entry
 entry key kind default low high = record { key = key; kind = kind; default = default; low = low; high = high }

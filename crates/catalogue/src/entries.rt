@@ -4,14 +4,14 @@ ghost use mathlib.Core.Bool.{true};
 ghost use Prim.Native.Nat.{_≤_, _<_};
 ghost use lib.ListN.{length};
 ghost use Rattle.std.specs.Vec.{made};
 ghost use Rattle.item.specs.Selectors.{selectorOf};
-ghost use Rattle.item.specs.Catalogues.{signedAtMost, atMost, allows, kindSuits, readFits, entryFault, entriesChecked, catalogueChecked, faultNumber, faultEntry, OnlyOnce, Accepted, FirstWith, NextNamed};
-use crate::key::Size;
-use crate::key::fits_key;
-use crate::key::is_well_formed;
-use crate::key::size_of;
-use crate::selector::Selector;
-use crate::selector::selector_of;
+ghost use Rattle.catalogue.specs.Catalogues.{signedAtMost, atMost, allows, kindSuits, readFits, entryFault, entriesChecked, catalogueChecked, faultNumber, faultEntry, OnlyOnce, Accepted, FirstWith, NextNamed};
+use item::Selector;
+use item::Size;
+use item::fits_key;
+use item::is_well_formed;
+use item::selector_of;
+use item::size_of;
 use std::error::Error;
 use std::fmt;
 
@@ -93,23 +93,21 @@ impl CatalogueFault {
     }
 }
 
-impl Size {
-    // Whether a is at most b in two's complement.
-    fn signed_at_most(self, a: u64, b: u64) -> bool
-        ensures { λ r. ⌜ r ≡ signedAtMost self a b ⌝ }
-    {
-        let half = match self {
-            Size::Bit => 1,
-            Size::One => 0x80,
-            Size::Two => 0x8000,
-            Size::Four => 0x8000_0000,
-            Size::Eight => 0x8000_0000_0000_0000u64,
-        };
-        if a >= half {
-            b < half || a <= b
-        } else {
-            b < half && a <= b
-        }
+// Whether a is at most b in two's complement of a size.
+fn signed_at_most(size: Size, a: u64, b: u64) -> bool
+    ensures { λ r. ⌜ r ≡ signedAtMost size a b ⌝ }
+{
+    let half = match size {
+        Size::Bit => 1,
+        Size::One => 0x80,
+        Size::Two => 0x8000,
+        Size::Four => 0x8000_0000,
+        Size::Eight => 0x8000_0000_0000_0000u64,
+    };
+    if a >= half {
+        b < half || a <= b
+    } else {
+        b < half && a <= b
     }
 }
 
@@ -122,7 +120,7 @@ impl Entry {
             return a <= b;
         }
         match size_of(self.key) {
-            Some(size) => size.signed_at_most(a, b),
+            Some(size) => signed_at_most(size, a, b),
             None => a <= b,
         }
     }

@@ -1,6 +1,6 @@
 use borrow.Author.Needs.{needs}
-use Rattle.item.proofs.Catalogues.{checked-fault, checked-more, checked-all, only-once}
-use Rattle.item.proofs.catalogue.check_entries.Needs as need
+use Rattle.catalogue.proofs.Catalogues.{checked-fault, checked-more, checked-all, only-once}
+use Rattle.catalogue.proofs.entries.check_entries.Needs as need
 
 pub returns-in-Some : need.returns-in-Some
 returns-in-Some c = let told = c .in-Some .ensures tt in search (needs, checked-fault)

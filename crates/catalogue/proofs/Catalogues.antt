@@ -14,13 +14,13 @@ use Rattle.std.specs.declared.result.Result.{Result}
 use Rattle.std.specs.declared.result.Result.the-variants.{Ok, Err}
 use Rattle.std.proofs.shelf.Lists.{at-drop-more, at-drop-all, drop-all}
 use Rattle.std.proofs.shelf.Tests.{cases-order, leb-false}
-use Rattle.item.specs.declared.catalogue.CatalogueFault.{CatalogueFault}
-use Rattle.item.specs.declared.catalogue.CatalogueFault.the-variants.{EntryCount, IllFormedKey, OutOfOrder, Unsound}
-use Rattle.item.specs.declared.catalogue.Entry.{Entry}
+use Rattle.catalogue.specs.declared.entries.CatalogueFault.{CatalogueFault}
+use Rattle.catalogue.specs.declared.entries.CatalogueFault.the-variants.{EntryCount, IllFormedKey, OutOfOrder, Unsound}
+use Rattle.catalogue.specs.declared.entries.Entry.{Entry}
 use Rattle.item.specs.declared.selector.Selector.{Selector}
 use Rattle.item.specs.Keys.{wellFormed}
 use Rattle.item.specs.Selectors.{names}
-use Rattle.item.specs.Catalogues.{isSound, entryFault, unlessFault, entriesChecked, Listed, blank, OnlyOnce, named, namedFrom}
+use Rattle.catalogue.specs.Catalogues.{isSound, entryFault, unlessFault, entriesChecked, Listed, blank, OnlyOnce, named, namedFrom}
 
 -- The loop of the check, which has found nothing wrong before this place
 

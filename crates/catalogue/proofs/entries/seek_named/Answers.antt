@@ -1,6 +1,6 @@
 use borrow.Author.Needs.{needs}
-use Rattle.item.proofs.Catalogues.{named-here, named-past, named-none}
-use Rattle.item.proofs.catalogue.seek_named.Needs as need
+use Rattle.catalogue.proofs.Catalogues.{named-here, named-past, named-none}
+use Rattle.catalogue.proofs.entries.seek_named.Needs as need
 
 pub returns-then-names : need.returns-then-names
 returns-then-names c = search (needs, named-here)

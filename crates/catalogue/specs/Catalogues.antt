@@ -9,14 +9,14 @@ use Rattle.std.specs.declared.option.Option.{Option}
 use Rattle.std.specs.declared.option.Option.the-variants.{Some, None}
 use Rattle.std.specs.declared.result.Result.{Result}
 use Rattle.std.specs.declared.result.Result.the-variants.{Ok, Err}
-use Rattle.item.specs.declared.catalogue.CatalogueFault.{CatalogueFault}
-use Rattle.item.specs.declared.catalogue.CatalogueFault.the-variants.{EntryCount, IllFormedKey, OutOfOrder, Unsound}
-use Rattle.item.specs.declared.catalogue.Entry.{Entry}
+use Rattle.catalogue.specs.declared.entries.CatalogueFault.{CatalogueFault}
+use Rattle.catalogue.specs.declared.entries.CatalogueFault.the-variants.{EntryCount, IllFormedKey, OutOfOrder, Unsound}
+use Rattle.catalogue.specs.declared.entries.Entry.{Entry}
 use Rattle.item.specs.declared.key.Size.{Size}
 use Rattle.item.specs.declared.key.Size.the-variants.{Bit, One, Two, Four, Eight}
 use Rattle.item.specs.declared.selector.Selector.{Selector}
 use Rattle.item.specs.Keys.{sizeOf, wellFormed, fitsKey}
 use Rattle.item.specs.Selectors.{names}
 
 -- The order of values: unsigned, or in kind 1 two's complement
 

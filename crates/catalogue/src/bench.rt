@@ -1,9 +1,9 @@
 // The bench catalogue: seven items on which the examples of this repository are worked.
 ghost use mathlib.Core.Path.{_≡_};
-ghost use Rattle.item.specs.Bench.{bench, BenchFacts};
-use crate::catalogue::BITS;
-use crate::catalogue::Entry;
-use crate::catalogue::UNSIGNED;
+ghost use Rattle.catalogue.specs.Bench.{bench, BenchFacts};
+use crate::entries::BITS;
+use crate::entries::Entry;
+use crate::entries::UNSIGNED;
 
 // An entry with unsigned values.
 fn unsigned(key: u32, default: u64, low: u64, high: u64) -> Entry
