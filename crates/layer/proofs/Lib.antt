@@ -1,4 +1,2 @@
-pub mod Catalogued
 pub mod Settings
-pub mod Slots
 pub mod Stores

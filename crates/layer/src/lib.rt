@@ -4,34 +4,22 @@
 // setting.rt   a value under a key
 // traits.rt    the traits of a readable layer and of a store
 // fault.rt     why a store refuses a write
-// slot.rt, table.rt   a table of 128 slots
 // absent.rt    a place that is not there
 // saver.rt     over any store, puts below only what differs
-// defaults.rt  the defaults of a catalogue
 // stack.rt     one layer over another
-// any.rt       a store that is chosen at run time
 // asking.rt    code over any store
 mod absent;
-mod any;
 mod asking;
-mod defaults;
 mod fault;
 mod saver;
 mod setting;
-mod slot;
 mod stack;
-mod table;
 mod traits;
 
 pub use absent::Absent;
 pub use absent::AbsentLayer;
 pub use absent::AbsentStore;
-pub use any::AnyLayer;
-pub use any::AnyStore;
-pub use any::AnyStoreStore;
 pub use asking::put_then_ask;
-pub use defaults::Defaults;
-pub use defaults::calls::DefaultsLayer;
 pub use fault::StoreFault;
 pub use fault::StoreFaultDebug;
 pub use fault::StoreFaultDisplay;
@@ -47,8 +35,5 @@ pub use stack::StackLayer;
 pub use stack::over_nothing;
 pub use stack::regrouped;
 pub use stack::under_nothing;
-pub use table::SlotTable;
-pub use table::calls::SlotLayer;
-pub use table::calls::SlotStore;
 pub use traits::Layer;
 pub use traits::Store;

@@ -1,0 +1,2 @@
+pub mod Catalogued
+pub mod Slots
