@@ -136,3 +136,8 @@ namedFrom s from es = named s from (drop from es)
 abbrev pub NextNamed : Selector → ℕ → List Entry → Option ℕ → Type 0
 NextNamed s from es None = namedFrom s from es ≡ []
 NextNamed s from es (Some i) = (from ≤ i) × (i < length es) × (namedFrom s from es ≡ i ∷ namedFrom s (i + 1) es)
+
+-- it is named, and no item between the place and it is
+abbrev pub FirstNamed : Selector → ℕ → List Entry → Option ℕ → Type 0
+FirstNamed s from es None = (j : ℕ) → from ≤ j → j < length es → names s (getD es j blank .key) ≡ false
+FirstNamed s from es (Some i) = (names s (getD es i blank .key) ≡ true) × ((j : ℕ) → from ≤ j → j < i → names s (getD es j blank .key) ≡ false)

@@ -5,7 +5,7 @@ ghost use Prim.Native.Nat.{_≤_, _<_};
 ghost use lib.ListN.{length};
 ghost use Rattle.std.specs.Vec.{made};
 ghost use Rattle.item.specs.Selectors.{selectorOf};
-ghost use Rattle.catalogue.specs.Catalogues.{signedAtMost, atMost, allows, kindSuits, readFits, entryFault, entriesChecked, catalogueChecked, faultNumber, faultEntry, OnlyOnce, Accepted, FirstWith, NextNamed};
+ghost use Rattle.catalogue.specs.Catalogues.{signedAtMost, atMost, allows, kindSuits, readFits, entryFault, entriesChecked, catalogueChecked, faultNumber, faultEntry, OnlyOnce, Accepted, FirstWith, NextNamed, FirstNamed};
 use item::Selector;
 use item::Size;
 use item::fits_key;
@@ -209,7 +209,8 @@ pub fn find_item(entries: &[Entry], key: u32) -> Option<usize>
 
 // The first item from a place on that a selector names.
 fn seek_named(entries: &[Entry], selector: Selector, from: usize) -> Option<usize>
-    ensures { λ r. ⌜ NextNamed selector from (now (entries .entry)) r ⌝ }
+    ensures next { λ r. ⌜ NextNamed selector from (now (entries .entry)) r ⌝ }
+    ensures first { λ r. ⌜ FirstNamed selector from (now (entries .entry)) r ⌝ }
 {
     for place in from..entries.len() {
         if selector.names(entries[place].key) {
@@ -221,7 +222,8 @@ fn seek_named(entries: &[Entry], selector: Selector, from: usize) -> Option<usiz
 
 // The first item from a place on that a number of the wire names; with the place behind the one before, one after the other in ascending order.
 pub fn next_named(entries: &[Entry], number: u32, from: usize) -> Option<usize>
-    ensures { λ r. ⌜ NextNamed (selectorOf number) from (now (entries .entry)) r ⌝ }
+    ensures next { λ r. ⌜ NextNamed (selectorOf number) from (now (entries .entry)) r ⌝ }
+    ensures first { λ r. ⌜ FirstNamed (selectorOf number) from (now (entries .entry)) r ⌝ }
 {
     seek_named(entries, selector_of(number), from)
 }

@@ -34,6 +34,7 @@ enum Header {
     Payload(usize),
 }
 
+// Each byte is judged as soon as it is there.
 fn header_of(bytes: &[u8]) -> Header
     ensures { λ r. ⌜ Headed (now (bytes .entry)) r ⌝ }
 {
@@ -186,9 +187,11 @@ fn start_at<'a>(bytes: &'a [u8], running: &[CheckBytes], place: usize) -> Start<
             if rest.len() <= HEADER + count {
                 return Start::Undecided;
             }
+            // summed are class, ID, two bytes of length and the payload, behind the preamble
+            let summed = 4 + count;
             let before = running[place + 1];
-            let behind = running[place + 1 + (4 + count)];
-            closed(rest, count, before.up_to(behind, 4 + count))
+            let behind = running[place + 1 + summed];
+            closed(rest, count, before.up_to(behind, summed))
         }
     }
 }

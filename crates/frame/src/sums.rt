@@ -1,10 +1,11 @@
 // The checksum of a frame: two sums over the bytes from the class to the payload's end.
 ghost use mathlib.Core.Path.{_≡_};
-ghost use Prim.Native.Nat.{_<_};
+ghost use Prim.Native.Nat.{_+_, _≤_};
 ghost use lib.ListN.{length};
 ghost use Rattle.std.specs.Of.Vec.{vec-items, vec-len};
 ghost use Rattle.std.specs.Vec.{made};
 ghost use Rattle.frame.specs.Checksum.{withByte, noSums, checkBytes, runningSums, sumsBetween};
+ghost use Rattle.frame.specs.Frames.{maxPayload};
 use std::alloc::AllocError;
 use std::alloc::Global;
 
@@ -36,7 +37,7 @@ impl CheckBytes {
 
     // The check bytes of `count` bytes, before which the sums are `self` and behind which they are `end`.
     pub(crate) fn up_to(self, end: CheckBytes, count: usize) -> CheckBytes
-        requires { ⌜ count < 1000 ⌝ }
+        requires { ⌜ count ≤ 4 + maxPayload ⌝ }
         ensures { λ r. ⌜ r ≡ sumsBetween self end count ⌝ }
     {
         let before = (count * self.a as usize + self.b as usize) % 256;

@@ -14,7 +14,7 @@ use frame::start_of;
 use frame::write_frame;
 use std::test::*;
 
-// Sets the dynamic model of the address item to 0x42, in RAM.
+// A set request: the value 42 under the key 20510001, in RAM.
 const SET: [u8; 17] = [
     0xb5,
     0x62,
