@@ -51,3 +51,8 @@ afterClear r ss = cond (isOk r) [] ss
 pub record Shows (usable : Bool) (ss : List Setting) : Type 0 where
   pub few : length ss ≤ 128
   pub idle : usable ≡ false → ss ≡ []
+
+-- these settings are some others with v put under k
+pub record WasPut (k v : ℕ) (ss : List Setting) : Type 0 where
+  pub before : List Setting
+  pub put : ss ≡ withValue k v before

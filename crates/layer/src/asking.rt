@@ -3,9 +3,18 @@ ghost use mathlib.Core.Path.{_≡_};
 ghost use Rattle.std.specs.Vec.{made};
 ghost use Rattle.std.specs.Results.{isOk};
 ghost use Rattle.std.specs.declared.option.Option.the-variants.{Some};
-ghost use Rattle.layer.specs.Stores.{putAnswer, afterPut};
+ghost use Rattle.layer.specs.Stores.{putAnswer, afterPut, WasPut};
 use crate::fault::StoreFault;
+use crate::traits::Layer;
 use crate::traits::Store;
+
+// Asks for a value that was put.
+fn ask_again<L: Layer>(layer: &L, key: u32, value: u64) -> Option<u64>
+    requires { ⌜ WasPut key value (L·Layer .settings (now layer)) ⌝ }
+    ensures { λ r. ⌜ r ≡ Some value ⌝ }
+{
+    layer.value(key)
+}
 
 // Puts a value and asks for it again: where it was granted, the store holds it.
 pub fn put_then_ask<S: Store>(
@@ -18,5 +27,5 @@ pub fn put_then_ask<S: Store>(
     ensures refused { λ r. ⌜ isOk r ≡ isOk (putAnswer (S·Store .usable (now (store .entry))) key value (S·Layer .settings (now (store .entry)))) ⌝ }
 {
     store.put(key, value)?;
-    Ok(store.value(key))
+    Ok(ask_again(store, key, value))
 }
