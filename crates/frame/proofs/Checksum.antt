@@ -90,11 +90,6 @@ running-at s [] k lt = absurd (omega arith)
 running-at s (x ∷ xs) zero lt = refl
 running-at s (x ∷ xs) (suc k) lt = running-at (withByte s x) xs k (omega arith)
 
-pub length-running : (s : CheckBytes) (bs : List ℕ) → length (runningSums s bs) ≡ length bs
-unfolding runningSums
-length-running s [] = refl
-length-running s (x ∷ xs) = ap suc (length-running (withByte s x) xs)
-
 -- the check bytes of the n bytes from i + 1 on, by the running sums
 pub window-sums : (bs : List ℕ) (i n : ℕ) → i + n < length bs
     → sumsBetween (getD (runningSums noSums bs) i noSums) (getD (runningSums noSums bs) (i + n) noSums) n ≡ checkBytes (take n (drop (i + 1) bs))

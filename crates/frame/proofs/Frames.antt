@@ -185,10 +185,6 @@ second-is : (y : ℕ) (xs : List ℕ) → atSecond (y ∷ xs) ≡ undecided → 
 unfolding atSecond
 second-is y xs e = eqb-true y preamble₂ (undecided-under (eqb y preamble₂) _ e .0)
 
-first-is : (y : ℕ) (xs : List ℕ) (m : Message) → standing (y ∷ xs) ≡ intact m → y ≡ preamble₁
-unfolding standing
-first-is y xs m e = eqb-true y preamble₁ (intact-under (eqb y preamble₁) _ m e .0)
-
 pub never-next : (x : ℕ) (xs : List ℕ) (m : Message) → standing (x ∷ xs) ≡ undecided → standing xs ≡ intact m → ⊥
 unfolding standing
 never-next x [] m u e = undecided≢intact m e

@@ -353,9 +353,6 @@ module _ (bs : List ℕ) (place : ℕ) (hs : List Hearing) (n : ℕ) (inv : both
       ap (λ (l : List Hearing). joined l rest place n) (sym (append-nil hs)) ∙ ap (joined (hs ++ []) rest place) (sym (add-zero n)) ∙ ap (λ (xs : List ℕ). joined (hs ++ []) xs place (n + 0)) is
       ∙ scan-on _ (scan-undecided place (drop place bs) (sym e))
 
-pub scan-none : (bs : List ℕ) → both (soFar [] 0) (scanFrom 0 0 bs) ≡ scanned bs
-scan-none bs = sym (both-waiting 0 [] (scanned bs))
-
 -- Scanning bytes that begin at another place
 
 pub scan-moved : (p at k : ℕ) (bs : List ℕ) → scanFrom (p + at) k bs ≡ moved p (scanFrom at k bs)

@@ -15,12 +15,6 @@ use Rattle.frame.specs.Written.{patched, inFront}
 use Rattle.frame.proofs.Frames.{frame-length}
 use Rattle.frame.proofs.Scanning.{heard-as-written}
 
-pub length-patched : (place : ℕ) (bs old : List ℕ) → place + length bs ≤ length old → length (patched place bs old) ≡ length old
-unfolding patched
-length-patched place bs old h =
-    let t = length-take-le place old (omega arith) in
-    simp (length-append, length-drop) (omega arith)
-
 -- no byte, and one byte more
 pub patched-nil : (place : ℕ) (old : List ℕ) → patched place [] old ≡ old
 unfolding patched

@@ -61,10 +61,6 @@ pub above-lower : (n m : ℕ) (ss : List Setting) → n ≤ m → Above m ss →
 above-lower n m [] h a = tt
 above-lower n m (s ∷ ss) h a = (omega arith, a .1)
 
-pub without-below : (k : ℕ) (ss : List Setting) → Above k ss → without k ss ≡ ss
-without-below k [] a = refl
-without-below k (s ∷ ss) a = let h = without-below k ss (above-lower k (s .key) ss (omega arith) (a .1)) in grind (arith, tells)
-
 pub key-above-with : (n k v : ℕ) (ss : List Setting) → keyAbove n (withValue k v ss) ≡ cond (ltb n k) (least k (keyAbove n ss)) (keyAbove n ss)
 key-above-with n k v [] = grind (arith, tells)
 key-above-with n k v (s ∷ ss) = let h = key-above-with n k v ss in grind (arith, tells)

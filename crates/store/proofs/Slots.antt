@@ -21,10 +21,6 @@ use Rattle.store.specs.Slots.{blank, holding, settingsOf, names, lacks, apart,
 use Rattle.store.specs.declared.slot.Slot.{Slot}
 use Rattle.layer.proofs.Settings.{value-with-same, value-with-other, with-twice, with-swap, length-with-new, ascends-with, without-none, without-with-same, key-above-with}
 
-pub lacks-append : (k : ℕ) (ss ts : List Slot) → lacks k (ss ++ ts) ≡ (lacks k ss && lacks k ts)
-lacks-append k [] ts = refl
-lacks-append k (s ∷ ss) ts = let h = lacks-append k ss ts in grind (arith, tells)
-
 pub lacks-suc : (k i : ℕ) (ss : List Slot) (d : Slot) → lacks k (take i ss) ≡ true → names k (getD ss i d) ≡ false → lacks k (take (suc i) ss) ≡ true
 lacks-suc k i [] d h n = refl
 lacks-suc k zero (s ∷ ss) d h n = grind (arith, tells)
