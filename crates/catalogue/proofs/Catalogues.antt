@@ -1,10 +1,9 @@
 -- The check of a catalogue entry by entry, what an accepted one is, and the walk over the named items.
-use mathlib.Core.Path.{_≡_, refl, sym, ap, subst, _∙_}
-use mathlib.Core.Logic.{inl, inr, ⊎-elim}
+use mathlib.Core.Path.{_≡_, refl, sym, ap, _∙_}
+use mathlib.Core.Logic.{⊎-elim}
 use mathlib.Core.Bool.{Bool, true, false, cond}
 use mathlib.Core.List.{List, [], _∷_}
-use Prim.Native.Nat.{ℕ, zero, suc, _+_, _-_, _≤_, _<_}
-use native.Mathlib.Nat.{not-suc-le-zero, le-of-suc-le-suc}
+use Prim.Native.Nat.{ℕ, zero, suc, _+_, _≤_, _<_}
 use native.Mathlib.Omega.{arith}
 use lib.Dec.{leb}
 use lib.ListN.{length, drop, getD}
@@ -12,10 +11,10 @@ use Rattle.std.specs.declared.option.Option.{Option}
 use Rattle.std.specs.declared.option.Option.the-variants.{Some, None}
 use Rattle.std.specs.declared.result.Result.{Result}
 use Rattle.std.specs.declared.result.Result.the-variants.{Ok, Err}
-use Rattle.std.proofs.shelf.Lists.{at-drop-more, at-drop-all, drop-all}
+use Rattle.std.proofs.shelf.Lists.{at-drop-more, at-drop-all}
 use Rattle.std.proofs.shelf.Tests.{cases-order, leb-false}
 use Rattle.catalogue.specs.declared.entries.CatalogueFault.{CatalogueFault}
-use Rattle.catalogue.specs.declared.entries.CatalogueFault.the-variants.{EntryCount, IllFormedKey, OutOfOrder, Unsound}
+use Rattle.catalogue.specs.declared.entries.CatalogueFault.the-variants.{IllFormedKey, OutOfOrder, Unsound}
 use Rattle.catalogue.specs.declared.entries.Entry.{Entry}
 use Rattle.item.specs.declared.selector.Selector.{Selector}
 use Rattle.item.specs.Keys.{wellFormed}

@@ -1,8 +1,6 @@
 // The catalogue: which items there are, with their defaults and bounds. It is a lent slice of entries; an item's number is its entry's place.
 ghost use mathlib.Core.Path.{_≡_};
-ghost use mathlib.Core.Bool.{true};
-ghost use Prim.Native.Nat.{_≤_, _<_};
-ghost use lib.ListN.{length};
+ghost use Prim.Native.Nat.{_<_};
 ghost use Rattle.std.specs.Vec.{made};
 ghost use Rattle.item.specs.Selectors.{selectorOf};
 ghost use Rattle.catalogue.specs.Catalogues.{signedAtMost, atMost, allows, kindSuits, readFits, entryFault, entriesChecked, catalogueChecked, faultNumber, faultEntry, OnlyOnce, Accepted, FirstWith, NextNamed, FirstNamed};

@@ -3,7 +3,7 @@ use mathlib.Core.Path.{_≡_, refl}
 use mathlib.Core.List.{List, [], _∷_, _++_}
 use Prim.Native.Nat.{ℕ, _+_}
 use lib.ListN.{length, drop, replicate}
-use Rattle.frame.specs.Checksum.{summed, checkBytes}
+use Rattle.frame.specs.Checksum.{summed}
 use Rattle.frame.specs.Frames.{Message, carrying, sizeOf, frameBytes, intact, undecided, noise, atCheckBytes, atPayload, atHeader, atSecond, standing}
 use Rattle.frame.specs.Scanning.{scannedAt, scanned, waiting}
 

@@ -1,9 +1,9 @@
 -- What stands at a byte: deciding is final, an intact frame fits the bytes, an undecided place is near the end, a written frame is intact.
-use mathlib.Core.Path.{_≡_, refl, sym, ap, subst, _∙_}
+use mathlib.Core.Path.{_≡_, refl, sym, ap, _∙_}
 use mathlib.Core.Logic.{_⊎_, inl, inr, ⊎-elim}
-use mathlib.Core.List.{List, [], _∷_, _++_, append-nil}
+use mathlib.Core.List.{List, [], _∷_, _++_}
 use mathlib.Core.Bool.{Bool, true, false, cond, _&&_}
-use Prim.Native.Nat.{ℕ, zero, suc, _+_, _-_, _*_, _/_, _%_, _≤_, _<_}
+use Prim.Native.Nat.{ℕ, suc, _+_, _-_, _*_, _/_, _%_, _≤_, _<_}
 use native.Mathlib.Omega.{arith}
 use lib.Dec.{eqb, leb}
 use lib.ListN.{length, take, drop, getD}
@@ -14,7 +14,7 @@ use Rattle.frame.specs.declared.scanner.Start.{Start}
 use Rattle.frame.specs.declared.scanner.Start.the-variants.{Noise, Undecided, Intact}
 use Rattle.frame.specs.Checksum.{noSums, checkBytes, runningSums, sumsBetween}
 use Rattle.frame.specs.Meaning.{messageOf, standingOf, passed}
-use Rattle.frame.specs.Frames.{preamble₁, preamble₂, maxPayload, Message, tailSize, sizeOf, bodyOf, frameBytes, Standing, noise, undecided, intact, atCheckBytes, atPayload, atHeader, atSecond, standing, messageAt, behindHeader}
+use Rattle.frame.specs.Frames.{preamble₁, preamble₂, maxPayload, Message, sizeOf, bodyOf, frameBytes, Standing, noise, undecided, intact, atCheckBytes, atPayload, atHeader, atSecond, standing, messageAt, behindHeader}
 use Rattle.frame.proofs.Checksum.{window-sums}
 
 -- The three cases are apart

@@ -1,18 +1,18 @@
 -- Scanning: behind more bytes, in pieces, in order, with each byte counted once, and with no frame swallowed.
 use mathlib.Core.Path.{_≡_, refl, sym, ap, subst, _∙_}
-use mathlib.Core.Logic.{_⊎_, inl, inr, ⊎-elim}
-use mathlib.Core.List.{List, [], _∷_, _++_, map, append-nil, append-assoc}
-use Prim.Native.Nat.{ℕ, zero, suc, _+_, _-_, _*_, _≤_, _<_}
+use mathlib.Core.Logic.{inl, inr, ⊎-elim}
+use mathlib.Core.List.{List, [], _∷_, _++_, append-nil, append-assoc}
+use Prim.Native.Nat.{ℕ, zero, suc, _+_, _≤_}
 use native.Mathlib.Nat.{add-zero, zero-add, add-suc, suc-add, not-suc-le-zero, le-of-suc-le-suc}
 use native.Mathlib.Omega.{arith}
-use lib.ListN.{length, take, drop, getD}
+use lib.ListN.{length, drop}
 use Rattle.std.specs.declared.option.Option.{Option}
 use Rattle.std.specs.declared.option.Option.the-variants.{Some, None}
 use Rattle.std.proofs.shelf.Lists.{length-drop, drop-drop, drop-at, drop-all}
 use Rattle.std.proofs.shelf.Tests.{cases-lt}
 use Rattle.std.specs.shelf.Lists.{All}
-use Rattle.frame.specs.Frames.{preamble₁, maxPayload, Message, tailSize, sizeOf, bodyOf, frameBytes, Standing, noise, undecided, intact, standing}
-use Rattle.frame.specs.Scanning.{Finding, behindNoise, findingAt, finding, Hearing, Scanned, withNoise, withHeard, waiting, scannedAt, scanFrom, scanned, movedHearing, moved, both, InPieces, Among, Inside, NoneSwallowed, InOrder, sizes, Promised, HeardAs}
+use Rattle.frame.specs.Frames.{maxPayload, Message, tailSize, sizeOf, frameBytes, Standing, noise, undecided, intact, standing}
+use Rattle.frame.specs.Scanning.{Finding, behindNoise, findingAt, finding, Hearing, Scanned, withNoise, withHeard, waiting, scannedAt, scanFrom, scanned, moved, both, Among, Inside, NoneSwallowed, InOrder, sizes, Promised, HeardAs}
 use Rattle.frame.proofs.Frames.{noise-more, intact-more, intact-fits, undecided-short, never-next, standing-none, frame-length, frame-is-intact}
 
 -- Scanning at a byte that is decided

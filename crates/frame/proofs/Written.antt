@@ -1,11 +1,11 @@
 -- Laws of bytes that are written into a buffer.
 use mathlib.Core.Path.{_≡_, refl, sym, ap, subst, _∙_}
-use mathlib.Core.List.{List, [], _∷_, _++_, append-nil, append-assoc}
-use Prim.Native.Nat.{ℕ, zero, suc, _+_, _-_, _*_, _/_, _%_, _<_, _≤_}
+use mathlib.Core.List.{List, [], _∷_, _++_, append-assoc}
+use Prim.Native.Nat.{ℕ, suc, _+_, _/_, _%_, _<_, _≤_}
 use native.Mathlib.Omega.{arith}
 use native.Mathlib.Nat.{add-zero, zero-add}
-use lib.ListN.{length, drop, take, getD, set}
-use Rattle.std.proofs.shelf.Lists.{length-take-le, length-append, length-drop, take-append-drop, take-at, take-more-set, drop-at, drop-drop, drop-set-lt}
+use lib.ListN.{length, drop, take, set}
+use Rattle.std.proofs.shelf.Lists.{length-take-le, length-append, take-append-drop, take-at, take-more-set, drop-at, drop-drop, drop-set-lt}
 use borrow.Rule.Slice.PartMut.{putMid}
 use Rattle.frame.specs.declared.sums.CheckBytes.{CheckBytes}
 use Rattle.frame.specs.Checksum.{checkBytes}

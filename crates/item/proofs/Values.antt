@@ -7,7 +7,7 @@ use mathlib.Core.Bool.{true}
 use lib.Dec.{leb}
 use lib.ListN.{length, drop, take, getD, set}
 use lib.Pow.{pow-mono}
-use Rattle.std.proofs.shelf.Bits.{pow-add, pow-pos, pow-below}
+use Rattle.std.proofs.shelf.Bits.{pow-add, pow-pos}
 use Rattle.std.proofs.shelf.Lists.{length-append, length-take-le, take-at, drop-more, drop-all}
 use Rattle.std.proofs.shelf.Tests.{ltb-true, le-leb, cond-true}
 use Rattle.std.specs.declared.option.Option.the-variants.{Some}

@@ -1,5 +1,5 @@
 -- Keys: a size in bits 30..28, a group in bits 23..16, an item in bits 11..0, and zeros elsewhere. The size says which values there are.
-use mathlib.Core.Bool.{Bool, true, false, cond, _&&_}
+use mathlib.Core.Bool.{Bool, false, cond, _&&_}
 use Prim.Native.Nat.{ℕ, _+_, _*_, _/_, _%_, _^_}
 use lib.Dec.{eqb, leb, ltb}
 use Rattle.std.specs.declared.option.Option.{Option}

@@ -1,9 +1,7 @@
 // What a layer and a store mean: a layer is its settings, and a store is a layer that can be written, with a mark.
 ghost use mathlib.Core.Path.{_≡_};
-ghost use mathlib.Core.Bool.{Bool, false};
-ghost use mathlib.Core.List.{List, []};
-ghost use Prim.Native.Nat.{_≤_};
-ghost use lib.ListN.{length};
+ghost use mathlib.Core.Bool.{Bool};
+ghost use mathlib.Core.List.{List};
 ghost use Rattle.layer.specs.declared.setting.Setting.{Setting};
 ghost use Rattle.layer.specs.Settings.{valueUnder, keyAbove, Ascends, Sound};
 ghost use Rattle.layer.specs.Stores.{putAnswer, removeAnswer, clearAnswer, afterPut, afterRemove, afterClear, Shows};

@@ -1,6 +1,6 @@
 -- Following a line: what is known of it after the bytes so far, and what one more piece adds.
 use mathlib.Core.Path.{_≡_}
-use mathlib.Core.List.{List, [], _∷_, _++_, map}
+use mathlib.Core.List.{List, _++_, map}
 use Prim.Native.Nat.{ℕ, _+_, _<_, _≤_, _^_}
 use lib.ListN.{length}
 use Rattle.std.specs.Of.Vec.{vec-items, vec-len}
@@ -10,7 +10,6 @@ use Rattle.std.specs.declared.vec.Vec.{Vec}
 use Rattle.std.specs.declared.result.Result.{Result}
 use Rattle.std.specs.declared.result.Result.the-variants.{Ok, Err}
 use Rattle.std.specs.shelf.Lists.{All}
-use Rattle.frame.specs.Frames.{Message}
 use Rattle.frame.specs.Scanning.{Hearing, movedHearing, Scanned, scanFrom, scanned}
 use Rattle.frame.specs.declared.scanner.Heard.{Heard}
 use Rattle.frame.specs.Meaning.{hearingOf}

@@ -3,7 +3,7 @@ use mathlib.Core.Path.{_≡_, refl, sym, ap, subst, _∙_}
 use mathlib.Core.Logic.{⊎-elim}
 use mathlib.Core.Bool.{Bool, true, false, cond, not, _&&_}
 use mathlib.Core.List.{List, [], _∷_, map}
-use Prim.Native.Nat.{ℕ, zero, suc, min, _+_, _≤_, _<_}
+use Prim.Native.Nat.{ℕ, suc, min, _+_, _≤_, _<_}
 use native.Mathlib.Omega.{arith}
 use lib.Dec.{eqb, ltb, leb}
 use lib.ListN.{length, drop, getD, set}
@@ -13,13 +13,12 @@ use Rattle.std.specs.declared.option.Option.{Option}
 use Rattle.std.specs.declared.option.Option.the-variants.{Some, None}
 use Rattle.std.specs.declared.result.Result.{Result}
 use Rattle.std.specs.declared.result.Result.the-variants.{Ok, Err}
-use Rattle.std.specs.shelf.Lists.{All}
 use Rattle.std.proofs.shelf.Lists.{length-set, getD-set-same, getD-set-other, set-past, drop-more, drop-all, at-drop-more, at-drop-all}
-use Rattle.std.proofs.shelf.Tests.{and-parts, and-left, and-right, ltb-true, cond-true, cond-false, cases-eq, cases-lt, ne-eqb, cases-bool, true≢false}
+use Rattle.std.proofs.shelf.Tests.{and-parts, and-right, ltb-true, cond-true, cond-false, cases-eq, cases-lt, ne-eqb, true≢false}
 use Rattle.catalogue.specs.declared.entries.CatalogueFault.{CatalogueFault}
 use Rattle.catalogue.specs.declared.entries.CatalogueFault.the-variants.{EntryCount}
 use Rattle.catalogue.specs.declared.entries.Entry.{Entry}
-use Rattle.catalogue.specs.Catalogues.{allows, kindSuits, readFits, isSound, entriesChecked, catalogueChecked, Listed, blank}
+use Rattle.catalogue.specs.Catalogues.{allows, kindSuits, readFits, isSound, entriesChecked, Listed, blank}
 use Rattle.catalogue.proofs.Catalogues.{listed-from}
 use Rattle.rule.specs.declared.need.Need.{Need}
 use Rattle.rule.specs.Rules.{Finding, NamesPlaces, outside, ranges, DefaultsFit, items, isBroken, firstBroken, Eases, bothFind}

@@ -4,7 +4,7 @@ use mathlib.Core.Bool.{Bool, true, false, cond, not, _&&_}
 use mathlib.Core.List.{List, [], _∷_, map}
 use Prim.Native.Nat.{ℕ, suc, min, _<_}
 use lib.Dec.{eqb, ltb}
-use lib.ListN.{length, take, getD, set}
+use lib.ListN.{length, getD, set}
 use Rattle.std.specs.Options.{orOther}
 use Rattle.std.specs.Results.{isOk}
 use Rattle.std.specs.declared.option.Option.{Option}

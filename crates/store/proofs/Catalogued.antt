@@ -1,13 +1,12 @@
 -- The defaults of a catalogue: a lawful layer, and what it answers.
 use mathlib.Core.Path.{_≡_, refl, sym, ap, subst, _∙_}
 use mathlib.Core.Bool.{Bool, true, false, cond}
-use mathlib.Core.List.{List, [], _∷_, map}
+use mathlib.Core.List.{List, [], _∷_}
 use Prim.Native.Nat.{ℕ, zero, suc, _+_, _≤_, _<_}
 use native.Mathlib.Omega.{arith}
 use lib.Dec.{eqb, ltb}
-use lib.ListN.{length, take, drop, getD}
+use lib.ListN.{length, drop, getD}
 use Rattle.std.specs.Results.{isOk}
-use Rattle.std.specs.declared.option.Option.{Option}
 use Rattle.std.specs.declared.option.Option.the-variants.{Some, None}
 use Rattle.std.specs.declared.result.Result.{Result}
 use Rattle.std.specs.declared.result.Result.the-variants.{Ok, Err}
@@ -20,7 +19,7 @@ use Rattle.catalogue.specs.declared.entries.CatalogueFault.{CatalogueFault}
 use Rattle.catalogue.proofs.Catalogues.{listed-from}
 use Rattle.layer.specs.declared.setting.Setting.{Setting}
 use Rattle.layer.specs.Settings.{isSetting, valueUnder, keyAbove, Above, Ascends, Sound}
-use Rattle.store.specs.Catalogued.{defaultOf, defaultsOf}
+use Rattle.store.specs.Catalogued.{defaultsOf}
 use Rattle.layer.proofs.Settings.{none-sound}
 use Rattle.layer.proofs.Stores.{setting-from}
 

@@ -1,11 +1,9 @@
 -- Laws of a table of slots.
 use mathlib.Core.Path.{_≡_, refl, sym, ap, _∙_}
-use mathlib.Core.Bool.{Bool, true, false, cond, _&&_}
-use mathlib.Core.Logic.{_⊎_, inl, inr, ⊎-elim}
-use mathlib.Core.List.{List, [], _∷_, _++_}
+use mathlib.Core.Bool.{true, false, cond}
+use mathlib.Core.List.{List, [], _∷_}
 use Prim.Native.Nat.{ℕ, zero, suc, _<_, _≤_, _+_}
 use native.Mathlib.Omega.{arith}
-use lib.Dec.{eqb, ltb}
 use lib.ListN.{length, take, drop, getD, set}
 use Rattle.std.specs.Options.{Cases}
 use Rattle.std.specs.declared.option.Option.{Option}
@@ -14,7 +12,6 @@ use Rattle.std.proofs.shelf.Lists.{drop-more, drop-all}
 use Rattle.std.proofs.shelf.Ways.{tells}
 use Rattle.std.proofs.shelf.Tests.{true≢false}
 use native.Mathlib.Numerals.{add-one}
-use Rattle.layer.specs.declared.setting.Setting.{Setting}
 use Rattle.layer.specs.Settings.{isSetting, valueUnder, withValue, without, least, lesser, keyAbove, Ascends}
 use Rattle.layer.specs.Stores.{room, Shows}
 use Rattle.store.specs.Slots.{blank, holding, settingsOf, names, lacks, apart, usedIn, nearer, Place, Found, Missing, sound}

@@ -1,12 +1,12 @@
 -- What a table of slots holds, and where a key stands in it.
 use mathlib.Core.Path.{_≡_}
-use mathlib.Core.Bool.{Bool, true, false, cond, not, _&&_}
-use mathlib.Core.List.{List, [], _∷_, _++_}
+use mathlib.Core.Bool.{Bool, true, false, cond, _&&_}
+use mathlib.Core.List.{List, [], _∷_}
 use Prim.Native.Nat.{ℕ, suc, _<_}
 use lib.Dec.{eqb, ltb}
 use Rattle.layer.specs.Settings.{isSetting, withValue, valueUnder, without, least}
 use Rattle.std.specs.declared.option.Option.{Option}
-use lib.ListN.{length, take, set, getD}
+use lib.ListN.{take, set, getD}
 use Rattle.std.specs.declared.option.Option.the-variants.{Some, None}
 use Rattle.layer.specs.declared.setting.Setting.{Setting}
 use Rattle.store.specs.declared.slot.Slot.{Slot}

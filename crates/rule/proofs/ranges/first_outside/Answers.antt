@@ -1,5 +1,3 @@
-use mathlib.Core.Path.{_≡_, ap, subst, _∙_}
-use Prim.Native.Nat.{ℕ, _<_, _≤_}
 use native.Mathlib.Omega.{arith}
 use Rattle.rule.proofs.Rules.{outside-here, outside-past, outside-end, defaults-fit}
 use Rattle.rule.proofs.ranges.first_outside.Needs as need

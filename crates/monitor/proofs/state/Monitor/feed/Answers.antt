@@ -1,8 +1,8 @@
 use native.Mathlib.Omega.{arith}
-use mathlib.Core.Path.{_≡_, sym, ap, subst, _∙_}
+use mathlib.Core.Path.{_≡_, ap, subst, _∙_}
 use mathlib.Core.List.{List, _++_}
-use Prim.Native.Nat.{ℕ, _+_, _≤_, _<_, _^_}
-use lib.ListN.{length, length-append}
+use Prim.Native.Nat.{ℕ, _<_, _^_}
+use lib.ListN.{length-append}
 use Rattle.std.specs.Of.Vec.{vec-items}
 use Rattle.monitor.specs.Following.{progressOf, lineLength, rowsOf, scannedOn, Brings}
 use Rattle.monitor.proofs.Following.{passed-is, follows-on}

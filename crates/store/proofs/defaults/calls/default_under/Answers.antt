@@ -1,4 +1,3 @@
-use borrow.Author.Needs.{needs}
 use Rattle.store.proofs.Catalogued.{default-at, default-none}
 use Rattle.store.proofs.defaults.calls.default_under.Needs as need
 

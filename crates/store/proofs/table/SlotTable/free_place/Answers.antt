@@ -1,7 +1,6 @@
 use borrow.Author.Needs.{needs}
 use native.Mathlib.Omega.{arith}
 use Rattle.std.proofs.shelf.Lists.{take-all}
-use Rattle.store.specs.Slots.{blank}
 use Rattle.store.proofs.Slots.{used-more}
 use Rattle.store.proofs.table.SlotTable.free_place.Needs as need
 

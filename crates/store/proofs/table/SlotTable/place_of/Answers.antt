@@ -1,11 +1,11 @@
 use borrow.Author.Needs.{needs}
-use mathlib.Core.Path.{_≡_, subst}
-use mathlib.Core.Bool.{true, false}
+use mathlib.Core.Path.{_≡_}
+use mathlib.Core.Bool.{false}
 use native.Mathlib.Omega.{arith}
 use lib.ListN.{getD}
 use Rattle.std.proofs.shelf.Lists.{take-all}
 use Rattle.std.proofs.shelf.Ways.{tells}
-use Rattle.store.specs.Slots.{blank, names, lacks}
+use Rattle.store.specs.Slots.{blank, names}
 use Rattle.store.proofs.Slots.{lacks-more, found, missing}
 use Rattle.store.proofs.table.SlotTable.place_of.Needs as need
 use Rattle.store.proofs.table.SlotTable.place_of.Needs.{else-s·by·then-s·else-s-key, else-s·by·else-s}
