@@ -33,7 +33,7 @@ pub struct Entry {
     pub high: u64,
 }
 
-// Why a catalogue is refused, with the place of the first entry at fault.
+// Why a catalogue is refused, with the place of the first entry at fault where there is one.
 #[derive(Clone, Copy, Debug)]
 pub enum CatalogueFault {
     // none, or more than 128
@@ -41,7 +41,7 @@ pub enum CatalogueFault {
     IllFormedKey(usize),
     // a key that is not above the one before it
     OutOfOrder(usize),
-    // a kind that there is not, a value that does not fit the size, or a default out of bounds
+    // a kind that there is not or that does not suit the size, a value that does not fit the size, or a default out of bounds
     Unsound(usize),
 }
 
@@ -181,8 +181,8 @@ fn check_entries(entries: &[Entry]) -> Result<(), CatalogueFault>
     Ok(())
 }
 
-// The check of a catalogue: 1 to 128 entries in strictly ascending key order, each with a well-formed key, a kind, values that fit and a default
-// within its bounds.
+// The check of a catalogue: 1 to 128 entries in strictly ascending key order, each with a well-formed key, a kind that suits its size, values
+// that fit and a default within its bounds.
 pub fn check_catalogue(entries: &[Entry]) -> Result<(), CatalogueFault>
     ensures value { λ r. ⌜ r ≡ catalogueChecked (now (entries .entry)) ⌝ }
     ensures accepted { λ r. ⌜ made r (λ _. Accepted (now (entries .entry))) ⌝ }

@@ -1,4 +1,4 @@
-// Tests of the crate `item` on worked keys, values and catalogues, in a crate of their own so that `item` is proved only once.
+// Tests of the crates `item` and `catalogue` on worked keys, values and catalogues, in a crate of their own so that those two are proved only once.
 #[cfg(test)]
 mod catalogues;
 #[cfg(test)]

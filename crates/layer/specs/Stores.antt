@@ -7,6 +7,8 @@ use lib.Dec.{ltb}
 use lib.ListN.{length}
 use Rattle.std.specs.Options.{isSome}
 use Rattle.std.specs.Results.{isOk}
+use Rattle.std.specs.declared.option.Option.{Option}
+use Rattle.std.specs.declared.option.Option.the-variants.{Some}
 use Rattle.std.specs.declared.result.Result.{Result}
 use Rattle.std.specs.declared.result.Result.the-variants.{Ok, Err}
 use Rattle.item.specs.Keys.{wellFormed, fitsKey}
@@ -56,3 +58,8 @@ pub record Shows (usable : Bool) (ss : List Setting) : Type 0 where
 pub record WasPut (k v : ℕ) (ss : List Setting) : Type 0 where
   pub before : List Setting
   pub put : ss ≡ withValue k v before
+
+-- what putting v and asking for it answers: the value where putting is granted, else its refusal
+abbrev pub AskedAs : ℕ → Result (Unit {0}) StoreFault → Result (Option ℕ) StoreFault → Type 0
+AskedAs v granted (Ok o) = (o ≡ Some v) × (Ok tt ≡ granted)
+AskedAs v granted (Err e) = Err e ≡ granted

@@ -1,9 +1,7 @@
 // Code over any store, proved once.
 ghost use mathlib.Core.Path.{_≡_};
-ghost use Rattle.std.specs.Vec.{made};
-ghost use Rattle.std.specs.Results.{isOk};
 ghost use Rattle.std.specs.declared.option.Option.the-variants.{Some};
-ghost use Rattle.layer.specs.Stores.{putAnswer, afterPut, WasPut};
+ghost use Rattle.layer.specs.Stores.{putAnswer, afterPut, WasPut, AskedAs};
 use crate::fault::StoreFault;
 use crate::traits::Layer;
 use crate::traits::Store;
@@ -22,9 +20,9 @@ pub fn put_then_ask<S: Store>(
     key: u32,
     value: u64,
 ) -> Result<Option<u64>, StoreFault>
-    ensures asked { λ r. ⌜ made r (λ v. v ≡ Some value) ⌝ }
+    ensures asked { λ r. ⌜ AskedAs value (putAnswer (S·Store .usable (now (store .entry))) key value (S·Layer .settings (now (store .entry)))) r ⌝ }
     ensures after { λ r. ⌜ S·Layer .settings (now (store .exit)) ≡ afterPut (putAnswer (S·Store .usable (now (store .entry))) key value (S·Layer .settings (now (store .entry)))) key value (S·Layer .settings (now (store .entry))) ⌝ }
-    ensures refused { λ r. ⌜ isOk r ≡ isOk (putAnswer (S·Store .usable (now (store .entry))) key value (S·Layer .settings (now (store .entry)))) ⌝ }
+    ensures mark { λ r. ⌜ S·Store .usable (now (store .exit)) ≡ S·Store .usable (now (store .entry)) ⌝ }
 {
     store.put(key, value)?;
     Ok(ask_again(store, key, value))

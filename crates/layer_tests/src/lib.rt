@@ -1,3 +1,3 @@
-// Tests of the crate `layer` at each implementation, in a crate of their own so that `layer` is proved only once.
+// Tests of the crates `layer` and `store` at each implementation, in a crate of their own so that those two are proved only once.
 #[cfg(test)]
 mod stores;

@@ -12,7 +12,7 @@ use Rattle.layer.specs.declared.setting.Setting.{Setting}
 use Rattle.store.specs.declared.slot.Slot.{Slot}
 use Rattle.layer.specs.Stores.{room}
 
--- a slot that is free: what the checker reads past the end of a table
+-- a slot that is free
 abbrev pub blank : Slot
 blank = record { used = false; key = 0; value = 0 }
 

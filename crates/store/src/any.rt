@@ -1,6 +1,8 @@
 // A store that is chosen at run time, for programs: a slot table or an absent place, bare or under a saver.
 // A write takes the store out, writes it and puts it back: a variant that holds a store with an invariant cannot be lent for change in its place.
-ghost use Rattle.store.specs.Any.{anySettings, anyUsable};
+ghost use mathlib.Core.Path.{_≡_};
+ghost use Rattle.layer.specs.Stores.{putAnswer, removeAnswer, clearAnswer, afterPut, afterRemove, afterClear};
+ghost use Rattle.store.specs.Any.{anySettings, anyUsable, anyKind};
 use crate::table::SlotTable;
 use crate::table::calls::SlotLayer;
 use crate::table::calls::SlotStore;
@@ -57,7 +59,12 @@ pub impl Store for AnyStore as AnyStoreStore {
         }
     }
 
-    fn put(&mut self, key: u32, value: u64) -> Result<(), StoreFault> {
+    fn put(&mut self, key: u32, value: u64) -> Result<(), StoreFault>
+        ensures answer { λ r. ⌜ r ≡ putAnswer (anyUsable (now (self .entry))) key value (anySettings (now (self .entry))) ⌝ }
+        ensures after { λ r. ⌜ anySettings (now (self .exit)) ≡ afterPut r key value (anySettings (now (self .entry))) ⌝ }
+        ensures mark { λ r. ⌜ anyUsable (now (self .exit)) ≡ anyUsable (now (self .entry)) ⌝ }
+        ensures kind { λ r. ⌜ anyKind (now (self .exit)) ≡ anyKind (now (self .entry)) ⌝ }
+    {
         match mem::replace(self, AnyStore::Nowhere(Absent)) {
             AnyStore::Slots(mut store) => {
                 let answer = store.put(key, value);
@@ -82,7 +89,12 @@ pub impl Store for AnyStore as AnyStoreStore {
         }
     }
 
-    fn remove(&mut self, key: u32) -> Result<(), StoreFault> {
+    fn remove(&mut self, key: u32) -> Result<(), StoreFault>
+        ensures answer { λ r. ⌜ r ≡ removeAnswer (anyUsable (now (self .entry))) key ⌝ }
+        ensures after { λ r. ⌜ anySettings (now (self .exit)) ≡ afterRemove r key (anySettings (now (self .entry))) ⌝ }
+        ensures mark { λ r. ⌜ anyUsable (now (self .exit)) ≡ anyUsable (now (self .entry)) ⌝ }
+        ensures kind { λ r. ⌜ anyKind (now (self .exit)) ≡ anyKind (now (self .entry)) ⌝ }
+    {
         match mem::replace(self, AnyStore::Nowhere(Absent)) {
             AnyStore::Slots(mut store) => {
                 let answer = store.remove(key);
@@ -107,7 +119,12 @@ pub impl Store for AnyStore as AnyStoreStore {
         }
     }
 
-    fn clear(&mut self) -> Result<(), StoreFault> {
+    fn clear(&mut self) -> Result<(), StoreFault>
+        ensures answer { λ r. ⌜ r ≡ clearAnswer (anyUsable (now (self .entry))) ⌝ }
+        ensures after { λ r. ⌜ anySettings (now (self .exit)) ≡ afterClear r (anySettings (now (self .entry))) ⌝ }
+        ensures mark { λ r. ⌜ anyUsable (now (self .exit)) ≡ anyUsable (now (self .entry)) ⌝ }
+        ensures kind { λ r. ⌜ anyKind (now (self .exit)) ≡ anyKind (now (self .entry)) ⌝ }
+    {
         match mem::replace(self, AnyStore::Nowhere(Absent)) {
             AnyStore::Slots(mut store) => {
                 let answer = store.clear();

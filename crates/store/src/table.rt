@@ -1,4 +1,4 @@
-// A table of 128 slots. A write changes one slot in its place.
+// A table of 128 slots. Putting and removing change one slot in its place.
 ghost use mathlib.Core.Path.{_≡_};
 ghost use mathlib.Core.Bool.{true};
 ghost use lib.ListN.{length};

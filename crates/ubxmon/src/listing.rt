@@ -18,7 +18,6 @@ pub fn list<R: Read, W: Write>(heap: Global, input: &mut R, out: &mut W) -> Resu
     out.writeln("place class id length")?;
     let mut monitor = Monitor::new(heap);
     let mut piece = [0u8; PIECE];
-    // an input that does not end is given up after 2^64 pieces
     for _ in 0..u64::MAX {
         let count = match input.read(&mut piece) {
             Ok(count) => count,
@@ -26,12 +25,12 @@ pub fn list<R: Read, W: Write>(heap: Global, input: &mut R, out: &mut W) -> Resu
             Err(fault) => return Err(fault.into()),
         };
         if count == 0 {
-            break;
+            out.writeln(monitor.counts())?;
+            return Ok(());
         }
         print_rows(out, monitor.feed(heap, &piece[0..count])?.as_slice())?;
     }
-    out.writeln(monitor.counts())?;
-    Ok(())
+    Err("gave up on an input that does not end".into())
 }
 
 fn print_rows<W: Write>(out: &mut W, rows: &[Row]) -> io::Result<()> {

@@ -16,7 +16,7 @@ frame that got through intact:
     length  of the payload, in bytes
 
 and at the end how many frames were heard, how many bytes were noise, and how
-many bytes at the end are held: they begin a frame that is not whole yet.
+many bytes at the end are held: they may begin a frame that is not whole yet.
 
 example: ubxmon < examples/valley.bin
 ";
