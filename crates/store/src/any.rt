@@ -1,6 +1,8 @@
 // A store that is chosen at run time, for programs: a slot table or an absent place, bare or under a saver.
 // A write takes the store out, writes it and puts it back: a variant that holds a store with an invariant cannot be lent for change in its place.
 ghost use mathlib.Core.Path.{_≡_};
+ghost use Rattle.std.specs.declared.option.Option.the-variants.{Some};
+ghost use Rattle.layer.specs.Settings.{valueUnder};
 ghost use Rattle.layer.specs.Stores.{putAnswer, removeAnswer, clearAnswer, afterPut, afterRemove, afterClear};
 ghost use Rattle.store.specs.Any.{anySettings, anyUsable, anyKind};
 use crate::table::SlotTable;
@@ -64,6 +66,7 @@ pub impl Store for AnyStore as AnyStoreStore {
         ensures after { λ r. ⌜ anySettings (now (self .exit)) ≡ afterPut r key value (anySettings (now (self .entry))) ⌝ }
         ensures mark { λ r. ⌜ anyUsable (now (self .exit)) ≡ anyUsable (now (self .entry)) ⌝ }
         ensures kind { λ r. ⌜ anyKind (now (self .exit)) ≡ anyKind (now (self .entry)) ⌝ }
+        ensures spared { λ r. ⌜ (anyKind (now (self .entry)) ≡ 2 → valueUnder key (anySettings (now (self .entry))) ≡ Some value → now (self .exit) ≡ now (self .entry)) ⌝ }
     {
         match mem::replace(self, AnyStore::Nowhere(Absent)) {
             AnyStore::Slots(mut store) => {
