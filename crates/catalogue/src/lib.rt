@@ -3,6 +3,8 @@
 // entries.rt  entries, their check, the finder and the walk over named items
 // owned.rt    a copy of a checked catalogue
 // bench.rt    the catalogue of the worked examples
+#![tactic(auto)]
+
 mod bench;
 mod entries;
 mod owned;

@@ -7,6 +7,8 @@
 // stacking.rt   stacking RAM
 // straying.rt   the least key that a layer holds and no item has
 // checking.rt   the check of the parts of a receiver
+#![tactic(auto)]
+
 mod applying;
 mod checking;
 mod gathering;

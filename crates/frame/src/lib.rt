@@ -8,6 +8,8 @@
 // sums.rt     the check bytes
 // scanner.rt  hearing: from bytes to frames
 // writer.rt   from a message to the bytes of its frame
+#![tactic(auto)]
+
 mod format;
 mod scanner;
 mod sums;

@@ -3,6 +3,8 @@
 // key.rt        sizes and well-formed keys
 // selector.rt   numbers of the wire that name one item, a group's items or all
 // value.rt      little-endian numbers, and values by their size
+#![tactic(auto)]
+
 mod key;
 mod selector;
 mod value;

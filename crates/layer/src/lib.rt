@@ -8,6 +8,8 @@
 // saver.rt     over any store, puts below only what differs
 // stack.rt     one layer over another
 // asking.rt    code over any store
+#![tactic(auto)]
+
 mod absent;
 mod asking;
 mod fault;

@@ -3,6 +3,8 @@
 // row.rt          the lines of a listing
 // state.rt        what a monitor has of a line
 // state/calls.rt  feeding it, and asking for its counts
+#![tactic(auto)]
+
 mod row;
 mod state;
 

@@ -1,4 +1,6 @@
 // The arguments that the programs of this repository share: a file, or standard input, or a call for help.
+#![tactic(auto)]
+
 use anyhow::anyhow;
 use std::alloc::Global;
 use std::env::Args;

@@ -4,6 +4,8 @@
 // pair.rt    a pair of key and value, written into a buffer
 // draft.rt   a page's payload while it is built
 // answer.rt  the page's frame, written into a caller's buffer
+#![tactic(auto)]
+
 mod answer;
 mod draft;
 mod entry;

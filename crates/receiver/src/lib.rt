@@ -10,6 +10,8 @@
 // first.rt        the first frame in the held bytes
 // transaction.rt  an open transaction; what a judged frame is to do
 // verdict.rt      writing an ACK or a NAK
+#![tactic(auto)]
+
 mod first;
 mod state;
 mod transaction;

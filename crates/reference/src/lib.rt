@@ -7,6 +7,8 @@
 // fault.rt     why a call is refused, and why parts are
 // layers.rt    the layers that a change is for
 // theorems.rt  what is proved of the definitions
+#![tactic(auto)]
+
 mod answered;
 mod call;
 mod fault;

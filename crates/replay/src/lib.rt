@@ -3,6 +3,8 @@
 //
 // event.rt      what is logged of a call
 // replaying.rt  carrying out calls
+#![tactic(auto)]
+
 mod event;
 mod replaying;
 

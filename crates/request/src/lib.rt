@@ -5,6 +5,8 @@
 // key.rt      the key at a place of a payload
 // head.rt     the head of a payload and its checks
 // data.rt     the walk over the data of a set or delete
+#![tactic(auto)]
+
 mod change;
 mod changes;
 mod data;

@@ -5,6 +5,8 @@
 // need.rt, needs.rt  items that need one another
 // both.rt    two rules together
 // asking.rt  code over any rule
+#![tactic(auto)]
+
 mod asking;
 mod both;
 mod need;

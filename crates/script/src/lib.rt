@@ -6,6 +6,8 @@
 // field.rt    the words behind a command
 // reading.rt  a line, read into a command
 // setup.rt    the parts that commands bring
+#![tactic(auto)]
+
 mod command;
 mod fault;
 mod field;

@@ -1,4 +1,6 @@
 // Tests of the crate `script`, in a crate of their own so that it is proved only once.
+#![tactic(auto)]
+
 #[cfg(test)]
 mod faults;
 #[cfg(test)]

@@ -4,6 +4,8 @@
 // defaults.rt        the defaults of a catalogue
 // catalogued.rt      the same, with the catalogue kept
 // any.rt             a store that is chosen at run time
+#![tactic(auto)]
+
 mod any;
 mod catalogued;
 mod defaults;

@@ -1,5 +1,7 @@
 // ubxlist: lists what a receiver answers to the frames in what came over a line. The work is done in crate `receiver`; here are the reading in
 // pieces and the printing.
+#![tactic(auto)]
+
 mod help;
 mod listing;
 mod row;

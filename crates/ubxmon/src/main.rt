@@ -1,5 +1,7 @@
 // ubxmon: lists the UBX frames in what came over a line. The work is done in crate `monitor`; here are the arguments, the reading in pieces
 // and the printing.
+#![tactic(auto)]
+
 mod help;
 mod listing;
 

@@ -1,5 +1,7 @@
 // ubxreplay: reads a script that sets up receivers, makes them and calls them, and prints what they answer. The lines are read by crate
 // `script`, and the calls are replayed by crate `replay`; here are the arguments, the order of the lines and the printing.
+#![tactic(auto)]
+
 mod answers;
 mod help;
 mod session;

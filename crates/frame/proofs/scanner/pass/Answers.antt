@@ -19,7 +19,7 @@ returns-in-Undecided c =
 pub places-preserved : goal.places-preserved
 places-preserved c =
     let told = c.in-Intact.ensures in
-    let more = ap (map hearing_of) c.in-ok-push.ensures.items ∙ map_push hearing_of (vec_items c.places.frames) _ in (
+    let more = ap (map hearing_of) c.in_ok-push-in-Intact.ensures.items ∙ map_push hearing_of (vec_items c.places.frames) _ in (
       omega arith,
       omega arith,
       scan_intact_on c.args.bytes.now c.places.place _ c.places.noise c.places.invariant.2 (message_of c.in-Intact.frame) c.size-place.result _ told.value c.size-place.ensures more,

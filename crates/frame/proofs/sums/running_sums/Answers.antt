@@ -5,8 +5,8 @@ use Rattle.frame.proofs.sums.running_sums.Goals as goal
 pub loop-byte-preserved : goal.loop-byte-preserved
 loop-byte-preserved c = (
   search rules,
-  running_more c.loop-byte.so_far_lem c.args.bytes.now c.loop-byte.byte-index c.with-so-far.result _ _ _ (omega arith) c.loop-byte.invariant.1 c.with-so-far.ensures
-      c.in-ok-push.ensures.items,
+  running_more c.loop-byte.so_far c.args.bytes.now c.loop-byte.byte-index c.with-so_far.result _ _ _ (omega arith) c.loop-byte.invariant.1 c.with-so_far.ensures
+      c.in_ok-push.ensures.items,
 )
 
 pub returns : goal.returns

@@ -5,4 +5,4 @@ use Rattle.frame.proofs.sums.running_sums.Given as goal
 abbrev pub invariant-loop-byte : goal.invariant-loop-byte
 invariant-loop-byte l =
     (vec_len l.running ≡ l.byte-index)
-    × (vec_items l.running ++ running_sums l.so_far_lem (drop l.byte-index l.bytes) ≡ running_sums no_sums l.bytes)
+    × (vec_items l.running ++ running_sums l.so_far (drop l.byte-index l.bytes) ≡ running_sums no_sums l.bytes)

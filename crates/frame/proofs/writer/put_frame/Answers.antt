@@ -7,7 +7,7 @@ pub returns : goal.returns
 returns c =
     let m = carrying c.args.class c.args.id c.args.payload.now in
     let out = frame_written m c.args.out.now c.put-header.new.out c.put-end.new.out (omega arith) c.put-header.ensures.out (search rules)
-    c.put.new.out c.check-bytes-sums.result _ c.put-end.result (omega arith) c.check-bytes-sums.ensures (omega arith) c.put.ensures.out in
+    c.put.new.out c.check_bytes-sums.result _ c.put-end.result (omega arith) c.check_bytes-sums.ensures (omega arith) c.put.ensures.out in
     record {
       value = omega arith;
       out = out;
