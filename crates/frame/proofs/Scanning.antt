@@ -2,7 +2,7 @@
 use Rattle.std.proofs.Common.{◌≡◌, ℕ, zero, suc, ◌+◌, ◌≤◌, List, [], ◌∷◌, ◌++◌, length, drop, Some, None, Option, sym, refl, ap, ◌∙◌, subst, inl, inr, ⊎_elim, append_assoc, append-nil, le_of_suc-le-suc, not-suc-le-zero, add-zero, add-suc, suc-add, zero-add, arith}
 use Rattle.std.proofs.lemmas.List.{length-drop, drop-drop, drop_at, drop_all}
 use Rattle.std.proofs.lemmas.Bool.{cases_lt}
-use Rattle.std.specs.List.{AllByRecursion as All}
+use Rattle.std.specs.List.{AllByRecursion}
 use Rattle.frame.specs.Frames.{max_payload, Message, tail_size, size_of, frame_bytes, Standing, noise, undecided, intact, standing}
 use Rattle.frame.specs.Scanning.{Finding, behind_noise, finding_at, finding, Hearing, Scanned, with_noise, with_heard, waiting, scanned_at, scan_from, scanned, moved, both, Among, Inside, NoneSwallowed, InOrder, sizes, Promised, HeardAs}
 use Rattle.frame.proofs.Frames.{noise_more, intact_more, intact_fits, undecided_short, never_next, standing_none, frame_length, frame_is_intact}
@@ -100,7 +100,7 @@ ordered bs at zero (x ∷ xs) = go (standing (x ∷ xs)) refl (λ k. ordered bs 
         (omega arith, ap standing e ∙ s, subst (λ (n : ℕ). InOrder bs n (scan_from (suc at) (tail_size m) xs).heard) same (ih (tail_size m) (drop_next at x xs bs e)))
 
 -- what is intact at a place lies within the bytes
-order_within : (bs : List ℕ) (n : ℕ) (hs : List Hearing) → InOrder bs n hs → All (λ h. h.place + size_of h.message ≤ length bs) hs
+order_within : (bs : List ℕ) (n : ℕ) (hs : List Hearing) → InOrder bs n hs → AllByRecursion (λ h. h.place + size_of h.message ≤ length bs) hs
 unfolding InOrder
 order_within bs n [] o = tt
 order_within bs n (h ∷ hs) o =

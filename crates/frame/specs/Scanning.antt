@@ -1,6 +1,6 @@
 -- Scanning a run of bytes: which frames are heard in it, where, how many bytes are noise, and what is left undecided.
 use Rattle.std.specs.Prelude.{◌≡◌, ℕ, zero, suc, ◌+◌, ◌<◌, ◌≤◌, ◌⊎◌, List, [], ◌∷◌, ◌++◌, map, length, drop, Some, None, Option}
-use Rattle.std.specs.List.{AllByRecursion as All}
+use Rattle.std.specs.List.{AllByRecursion}
 use Rattle.frame.specs.Frames.{max_frame, Message, tail_size, size_of, Standing, noise, undecided, intact, standing}
 
 -- What a search finds: the bytes of noise up to the first frame heard or undecided place, the frame's message, and what stands behind it
@@ -103,7 +103,7 @@ pub record Promised (bs : List ℕ) (s : Scanned) : Type 0 where
   pub in_pieces : InPieces bs s
   pub none_swallowed : NoneSwallowed bs s.heard
   pub in_order : InOrder bs 0 s.heard
-  pub within : All (λ h. h.place + size_of h.message ≤ length bs) s.heard
+  pub within : AllByRecursion (λ h. h.place + size_of h.message ≤ length bs) s.heard
   -- each byte is counted once: as noise, in a heard frame, or in the undecided rest
   pub accounted : s.noise + sizes s.heard + length s.rest ≡ length bs
   -- which is the end of the bytes, and shorter than the largest frame

@@ -1,6 +1,6 @@
 -- Following a line: what a piece brings, and that the pieces together are the line.
 use Rattle.std.proofs.Common.{◌≡◌, ℕ, ◌+◌, ◌^◌, ◌<◌, ◌≤◌, List, [], ◌∷◌, ◌++◌, map, length, vec_items, sym, refl, ap, ◌∙◌, add-zero, arith}
-use Rattle.std.specs.List.{AllByRecursion as All}
+use Rattle.std.specs.List.{AllByRecursion}
 use Rattle.std.proofs.lemmas.List.{length-map, length-append, map-append}
 use Rattle.frame.specs.Frames.{size_of}
 use Rattle.frame.specs.Meaning.{hearing_of, scanned_of}
@@ -13,7 +13,7 @@ use Rattle.monitor.specs.declared.state.calls.Brought.{Brought}
 use Rattle.monitor.specs.Following.{Progress, reached, scanned_on, progress_on, row_of, row_at, rows_of, Placed, Brings, passed}
 
 -- places within the bytes stay below the line's end
-pub places_fit : (p n : ℕ) (hs : List Heard) → All (λ h. h.place + size_of h.message ≤ n) (map hearing_of hs) → p + n < 2 ^ 64 → Placed p hs
+pub places_fit : (p n : ℕ) (hs : List Heard) → AllByRecursion (λ h. h.place + size_of h.message ≤ n) (map hearing_of hs) → p + n < 2 ^ 64 → Placed p hs
 places_fit p n [] w e = tt
 places_fit p n (h ∷ hs) w e = (omega (arith, w.0), places_fit p n hs w.1 e)
 

@@ -1,7 +1,7 @@
 -- What accepted parts show.
 use Rattle.std.proofs.Common.{◌≡◌, Bool, true, false, cond, ◌&&◌, leb, [], ◌∷◌, map, length, Some, None, Ok, Err, Option, Result, refl}
 use Rattle.std.specs.Option.{option_or, option_map}
-use Rattle.std.specs.List.{AllByRecursion as All}
+use Rattle.std.specs.List.{AllByRecursion}
 use Rattle.std.proofs.lemmas.Bool.{leb-true, and_parts}
 use Rattle.catalogue.specs.declared.entries.CatalogueFault.{CatalogueFault}
 use Rattle.catalogue.specs.declared.entries.CatalogueFault.TheVariants.{EntryCount}
@@ -39,20 +39,20 @@ sound_from es e = go (leb 1 (length es) && leb (length es) 128) refl e
     go true is e = record { at_most = leb-true (length es) 128 (and_parts (leb 1 (length es)) (leb (length es) 128) is).1; listed = listed_from 0 0 es (checked (entries_checked 0 0 es) e) }
     go false is e = absurd (some≢none (CatalogueRefused EntryCount) e)
 
-no_strays : (cat : Catalogue) (ss : Settings) → stray_key cat ss ≡ None → All (KnownIn cat) ss
+no_strays : (cat : Catalogue) (ss : Settings) → stray_key cat ss ≡ None → AllByRecursion (KnownIn cat) ss
 unfolding stray_key
 no_strays cat [] e = tt
 no_strays cat (s ∷ ss) e = go (is_known cat s.key) refl e (no_strays cat ss)
   where
-    go : (b : Bool) → is_known cat s.key ≡ b → cond b (stray_key cat ss) (Some s.key) ≡ None → (stray_key cat ss ≡ None → All (KnownIn cat) ss) → All (KnownIn cat) (s ∷ ss)
+    go : (b : Bool) → is_known cat s.key ≡ b → cond b (stray_key cat ss) (Some s.key) ≡ None → (stray_key cat ss ≡ None → AllByRecursion (KnownIn cat) ss) → AllByRecursion (KnownIn cat) (s ∷ ss)
     go true is e ih = (is, ih e)
     go false is e ih = absurd (some≢none _ e)
 
 pub record Accepted (p : Parts) : Type 0 where
   pub sound : SoundCatalogue p.catalogue
   pub bbr_usable : p.bbr.usable ≡ true
-  pub bbr_known : All (KnownIn p.catalogue) p.bbr.settings
-  pub flash_known : All (KnownIn p.catalogue) p.flash.settings
+  pub bbr_known : AllByRecursion (KnownIn p.catalogue) p.bbr.settings
+  pub flash_known : AllByRecursion (KnownIn p.catalogue) p.flash.settings
   pub defaults_fit : p.rule p.catalogue (map default_of p.catalogue) ≡ None
 
 pub accepted_shows : (p : Parts) → parts_fault p ≡ None → Accepted p

@@ -1,6 +1,6 @@
 -- Data that are read name keys of the catalogue, with values that fit.
 use Rattle.std.proofs.Common.{◌≡◌, ℕ, zero, suc, ◌+◌, ◌%◌, ◌<◌, ◌≤◌, Bool, true, false, cond, eqb, ltb, leb, List, [], ◌∷◌, ◌++◌, map, length, take, drop, Some, None, Ok, Err, Option, Result, sym, refl, subst, mod-lt, arith}
-use Rattle.std.specs.List.{AllByRecursion as All}
+use Rattle.std.specs.List.{AllByRecursion}
 use Rattle.std.proofs.ByRecursion.{All-append, All-map, All-weaker}
 use Rattle.std.proofs.lemmas.Bool.{cond_both, leb-true, lt-ltb, and_parts, eq-eqb, or_left, or_right, false≢true}
 use Rattle.item.specs.declared.key.Size.{Size}
@@ -19,13 +19,13 @@ use Rattle.reference.proofs.Stores.{SoundCatalogue, Good, GoodChanges, latest_go
 abbrev ReadAll : {A : Type 0} → (A → Type 0) → Read (List A) → Type 0
 ReadAll P cut = Unit {0}
 ReadAll P unknown = Unit {0}
-ReadAll P (read n xs) = All P xs
+ReadAll P (read n xs) = AllByRecursion P xs
 
 abbrev OkAll : {A : Type 0} → (A → Type 0) → Result (List A) Refusal → Type 0
-OkAll P (Ok xs) = All P xs
+OkAll P (Ok xs) = AllByRecursion P xs
 OkAll P (Err r) = Unit {0}
 
-ok_joined : {A : Type 0} (P : A → Type 0) (xs : List A) (r : Result (List A) Refusal) → All P xs → OkAll P r → OkAll P (ok_map (◌++◌ xs) r)
+ok_joined : {A : Type 0} (P : A → Type 0) (xs : List A) (r : Result (List A) Refusal) → AllByRecursion P xs → OkAll P r → OkAll P (ok_map (◌++◌ xs) r)
 ok_joined P xs (Ok bs) h k = All-append P xs bs h k
 ok_joined P xs (Err r) h k = tt
 
@@ -93,12 +93,12 @@ module _ (cat : Catalogue) (sound : SoundCatalogue cat) where
       cond_both (ltb (length bs) (4 + w)) cut (cond (is_known cat k) r unknown) (ReadAll (Good cat true)) (λ _. tt)
       (λ _. cond_both (is_known cat k) r unknown (ReadAll (Good cat true)) (λ is. (one_good k n is, tt)) (λ _. tt))
 
-  named_known : (s : Selector) (es : Catalogue) → All (λ k. is_known es k ≡ true) (keys_named s es)
+  named_known : (s : Selector) (es : Catalogue) → AllByRecursion (λ k. is_known es k ≡ true) (keys_named s es)
   unfolding keys_named is_known
   named_known s [] = tt
   named_known s (e ∷ es) =
       let rest = All-weaker (λ k. is_known es k ≡ true) (λ k. is_known (e ∷ es) k ≡ true) (λ k is. or_right _ _ is) (keys_named s es) (named_known s es) in
-      cond_both (names s e.key) _ _ (All (λ k. is_known (e ∷ es) k ≡ true)) (λ _. (or_left _ _ (eq-eqb e.key e.key refl), rest)) (λ _. rest)
+      cond_both (names s e.key) _ _ (AllByRecursion (λ k. is_known (e ∷ es) k ≡ true)) (λ _. (or_left _ _ (eq-eqb e.key e.key refl), rest)) (λ _. rest)
 
   deleted_good : (k : ℕ) → is_known cat k ≡ true → Good cat false (deleted k)
   deleted_good k is = record { known = is; fit = λ v e. absurd (some≢none v (sym e)); some = λ e. absurd (false≢true e) }
@@ -108,7 +108,7 @@ module _ (cat : Catalogue) (sound : SoundCatalogue cat) where
   deletion_good bs =
       cond_both (ltb (length bs) 4) _ _ (λ r. ReadAll (Good cat false) (read_map (map deleted) r)) (λ _. tt) (λ _. go (keys_named (selector_of (number (take 4 bs))) cat) (named_known (selector_of (number (take 4 bs))) cat))
     where
-      go : (ks : List ℕ) → All (λ k. is_known cat k ≡ true) ks → ReadAll (Good cat false) (read_map (map deleted) (named_read ks))
+      go : (ks : List ℕ) → AllByRecursion (λ k. is_known cat k ≡ true) ks → ReadAll (Good cat false) (read_map (map deleted) (named_read ks))
       go [] h = tt
       go (k ∷ ks) h = All-map (Good cat false) deleted (k ∷ ks) (All-weaker (λ k. is_known cat k ≡ true) (λ k. Good cat false (deleted k)) deleted_good (k ∷ ks) h)
 

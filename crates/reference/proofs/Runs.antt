@@ -1,7 +1,7 @@
 -- The law holds of every run of the reference receiver from accepted parts.
 use Rattle.std.proofs.Common.{◌≡◌, ℕ, Bool, true, false, cond, ◌&&◌, eqb, List, [], ◌∷◌, Some, None, Ok, Err, Option, Result, sym, refl, ap, ◌∙◌, subst, ap₂, ⊎_elim, arith}
 use mathlib.Core.Path.{fun_ext}
-use Rattle.std.specs.List.{AllByRecursion as All}
+use Rattle.std.specs.List.{AllByRecursion}
 use Rattle.std.proofs.lemmas.Bool.{eqb-true, ne_eqb, and_parts, cond_both, true≢false}
 use Rattle.frame.specs.Frames.{Message}
 use Rattle.frame.specs.Scanning.{finding}
@@ -229,7 +229,7 @@ made_keeps p accepted ok bbr flash = subst (λ (s : State). Invariant p s []) (s
 record RunsWell (p : Parts) (r : Run) : Type 0 where
   pub end : Invariant p r.state r.history
   pub heard_well : Throughout ToldAsHeard r.history
-  pub judged_well : All OneVerdict r.history
+  pub judged_well : AllByRecursion OneVerdict r.history
   pub shown_well : Throughout (ShownAsFound p) r.history
   pub noise_well : Throughout NoiseIsTold r.history
 

@@ -1,6 +1,6 @@
 -- What putting and removing leave under each key, and how many settings ascending keys of a catalogue can be.
 use Rattle.std.proofs.Common.{◌≡◌, ℕ, suc, ◌<◌, ◌≤◌, Bool, true, false, cond, ◌||◌, eqb, ltb, [], ◌∷◌, length, Some, None, sym, refl, subst, arith}
-use Rattle.std.specs.List.{AllByRecursion as All}
+use Rattle.std.specs.List.{AllByRecursion}
 use Rattle.std.proofs.lemmas.Bool.{eqb-true, eqb-false, ne_eqb, cond_both, false≢true}
 use Rattle.std.proofs.lemmas.Bool.Decides.{nat_tests}
 use Rattle.item.specs.Keys.{well_formed}
@@ -37,15 +37,15 @@ above_without n k (s ∷ ss) h =
     (λ same. above_without n k ss (above_lower n s.key ss (omega arith) h.1))
     (λ other. (h.0, above_without s.key k ss h.1))
 
-pub all_with : (P : Setting → Type 0) (k v : ℕ) (ss : Settings) → P (setting k v) → All P ss → All P (with_value k v ss)
+pub all_with : (P : Setting → Type 0) (k v : ℕ) (ss : Settings) → P (setting k v) → AllByRecursion P ss → AllByRecursion P (with_value k v ss)
 all_with P k v [] p h = (p, tt)
 all_with P k v (s ∷ ss) p h =
-    cond_both (ltb k s.key) _ _ (All P) (λ less. (p, h))
-    (λ more. cond_both (eqb s.key k) _ _ (All P) (λ same. (p, h.1)) (λ other. (h.0, all_with P k v ss p h.1)))
+    cond_both (ltb k s.key) _ _ (AllByRecursion P) (λ less. (p, h))
+    (λ more. cond_both (eqb s.key k) _ _ (AllByRecursion P) (λ same. (p, h.1)) (λ other. (h.0, all_with P k v ss p h.1)))
 
-pub all_without : (P : Setting → Type 0) (k : ℕ) (ss : Settings) → All P ss → All P (without k ss)
+pub all_without : (P : Setting → Type 0) (k : ℕ) (ss : Settings) → AllByRecursion P ss → AllByRecursion P (without k ss)
 all_without P k [] h = tt
-all_without P k (s ∷ ss) h = cond_both (eqb s.key k) _ _ (All P) (λ same. all_without P k ss h.1) (λ other. (h.0, all_without P k ss h.1))
+all_without P k (s ∷ ss) h = cond_both (eqb s.key k) _ _ (AllByRecursion P) (λ same. all_without P k ss h.1) (λ other. (h.0, all_without P k ss h.1))
 
 -- a known key is above what the catalogue ascends from, and well formed
 pub known_above : (es : Catalogue) (n k : ℕ) → Listed n es → is_known es k ≡ true → n < k
@@ -67,7 +67,7 @@ known_formed (x ∷ es) n k l e = go (eqb x.key k) refl e (known_formed es x.key
     go false other e ih = ih e
 
 -- so ascending known keys ascend from above 0
-pub above_none : (cat : Catalogue) (ss : Settings) → Listed 0 cat → Ascends ss → All (KnownIn cat) ss → Above 0 ss
+pub above_none : (cat : Catalogue) (ss : Settings) → Listed 0 cat → Ascends ss → AllByRecursion (KnownIn cat) ss → Above 0 ss
 above_none cat [] l a h = tt
 above_none cat (s ∷ ss) l a h = (known_above cat 0 s.key l h.0, a)
 
@@ -75,18 +75,18 @@ known_rest : (x : Entry) (es : Catalogue) (k : ℕ) → x.key < k → is_known (
 unfolding is_known
 known_rest x es k lt e = rw (ne_eqb x.key k (λ q. omega arith)) at e
 
-all_rest : (x : Entry) (es : Catalogue) (ss : Settings) (n : ℕ) → x.key ≤ n → Above n ss → All (KnownIn (x ∷ es)) ss → All (KnownIn es) ss
+all_rest : (x : Entry) (es : Catalogue) (ss : Settings) (n : ℕ) → x.key ≤ n → Above n ss → AllByRecursion (KnownIn (x ∷ es)) ss → AllByRecursion (KnownIn es) ss
 all_rest x es [] n le h k = tt
 all_rest x es (s ∷ ss) n le h k = (known_rest x es s.key (omega arith) k.0, all_rest x es ss s.key (omega arith) h.1 k.1)
 
 -- they are at most as many as the entries
-pub few : (cat : Catalogue) (ss : Settings) (a b : ℕ) → Listed a cat → Above b ss → All (KnownIn cat) ss → length ss ≤ length cat
+pub few : (cat : Catalogue) (ss : Settings) (a b : ℕ) → Listed a cat → Above b ss → AllByRecursion (KnownIn cat) ss → length ss ≤ length cat
 unfolding is_known Listed
 few cat [] a b c h k = omega arith
 few [] (s ∷ ss) a b c h k = absurd (false≢true k.0)
 few (x ∷ es) (s ∷ ss) a b c h k = go (λ l b'. few es l x.key b' c.3) (eqb x.key s.key) refl k.0
   where
-    go : ((l : Settings) (b : ℕ) → Above b l → All (KnownIn es) l → length l ≤ length es)
+    go : ((l : Settings) (b : ℕ) → Above b l → AllByRecursion (KnownIn es) l → length l ≤ length es)
         → (t : Bool) → eqb x.key s.key ≡ t → (t || is_known es s.key) ≡ true → suc (length ss) ≤ suc (length es)
     go ih true same e =
         let q = eqb-true x.key s.key same in

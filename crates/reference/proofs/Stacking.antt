@@ -1,6 +1,6 @@
 -- What a stacking leaves: a value for each item, ascending, and a configuration that the rule finds fit.
 use Rattle.std.proofs.Common.{◌≡◌, ℕ, ◌<◌, Bool, true, false, cond, ◌||◌, eqb, List, [], ◌∷◌, map, Some, None, Option, unwrap_or, sym, refl, ap, ◌∙◌, ap₂, arith}
-use Rattle.std.specs.List.{AllByRecursion as All}
+use Rattle.std.specs.List.{AllByRecursion}
 use Rattle.std.proofs.ByRecursion.{All-weaker}
 use Rattle.std.proofs.lemmas.Bool.{eq-eqb, ne_eqb, or_left, or_right, false≢true}
 use Rattle.catalogue.specs.declared.entries.Entry.{Entry}
@@ -21,7 +21,7 @@ module _ (f : Entry → ℕ) where
   above_by [] a h = tt
   above_by (e ∷ es) a h = (h.0, above_by es e.key h.3)
 
-  known_by : (es : Catalogue) → All (KnownIn es) (settings_by f es)
+  known_by : (es : Catalogue) → AllByRecursion (KnownIn es) (settings_by f es)
   unfolding settings_by is_known
   known_by [] = tt
   known_by (e ∷ es) =
@@ -37,13 +37,13 @@ module _ (f : Entry → ℕ) where
       go true h ih = (f e, refl)
       go false h ih = ih h
 
-  above_all : (es : Catalogue) (a : ℕ) → Listed a es → All (λ (e : Entry). a < e.key) es
+  above_all : (es : Catalogue) (a : ℕ) → Listed a es → AllByRecursion (λ (e : Entry). a < e.key) es
   unfolding Listed
   above_all [] a h = tt
   above_all (e ∷ es) a h = (h.0, All-weaker (λ (x : Entry). e.key < x.key) (λ (x : Entry). a < x.key) (λ x lt. omega (arith, h.0)) es (above_all es e.key h.3))
 
   -- with ascending keys each item has its own value
-  own_by : (es : Catalogue) (a : ℕ) → Listed a es → All (λ (e : Entry). value_under e.key (settings_by f es) ≡ Some (f e)) es
+  own_by : (es : Catalogue) (a : ℕ) → Listed a es → AllByRecursion (λ (e : Entry). value_under e.key (settings_by f es) ≡ Some (f e)) es
   unfolding settings_by Listed
   own_by [] a h = tt
   own_by (e ∷ es) a h = (
@@ -51,12 +51,12 @@ module _ (f : Entry → ℕ) where
     all_both es (above_all es e.key h.3) (own_by es e.key h.3),
   )
     where
-      all_both : (xs : Catalogue) → All (λ (x : Entry). e.key < x.key) xs → All (λ (x : Entry). value_under x.key (settings_by f es) ≡ Some (f x)) xs
-          → All (λ (x : Entry). cond (eqb e.key x.key) (Some (f e)) (value_under x.key (settings_by f es)) ≡ Some (f x)) xs
+      all_both : (xs : Catalogue) → AllByRecursion (λ (x : Entry). e.key < x.key) xs → AllByRecursion (λ (x : Entry). value_under x.key (settings_by f es) ≡ Some (f x)) xs
+          → AllByRecursion (λ (x : Entry). cond (eqb e.key x.key) (Some (f e)) (value_under x.key (settings_by f es)) ≡ Some (f x)) xs
       all_both [] p q = tt
       all_both (x ∷ xs) p q = (rw (ne_eqb e.key x.key (λ s. omega (arith, p.0))) q.0, all_both xs p.1 q.1)
 
-  configuration_is : (es : Catalogue) (s : Store) → All (λ (e : Entry). held s e.key ≡ Some (f e)) es → configuration es s ≡ map f es
+  configuration_is : (es : Catalogue) (s : Store) → AllByRecursion (λ (e : Entry). held s e.key ≡ Some (f e)) es → configuration es s ≡ map f es
   unfolding configuration
   configuration_is [] s h = refl
   configuration_is (e ∷ es) s h = ap₂ (λ (x : ℕ) (xs : List ℕ). x ∷ xs) (ap (λ o. unwrap_or o e.default) h.0) (configuration_is es s h.1)

@@ -1,7 +1,7 @@
 -- Applying data to a store that holds keys of the catalogue alone: nothing is refused, and each named key has its last value.
 use Rattle.std.proofs.Common.{◌≡◌, ℕ, ◌≤◌, Bool, true, false, cond, ◌||◌, eqb, ltb, [], ◌∷◌, length, is_some, Some, None, Ok, Err, Option, unwrap_or, sym, refl, ap, ◌∙◌, subst, arith}
 use Rattle.std.specs.Option.{option_or}
-use Rattle.std.specs.List.{AllByRecursion as All}
+use Rattle.std.specs.List.{AllByRecursion}
 use Rattle.std.proofs.lemmas.Bool.{eqb-true, eq-eqb, lt-ltb, true≢false, or_left, or_right, cond_both}
 use Rattle.item.specs.Keys.{well_formed, fits_key}
 use Rattle.layer.specs.Settings.{value_under, with_value, without, Above}
@@ -21,7 +21,7 @@ pub record SoundCatalogue (cat : Catalogue) : Type 0 where
 -- ascending keys of the catalogue
 pub record Tidy (cat : Catalogue) (ss : Settings) : Type 0 where
   pub above : Above 0 ss
-  pub known : All (KnownIn cat) ss
+  pub known : AllByRecursion (KnownIn cat) ss
 
 -- a change that names a known key, with a value that fitsKey; in a set there is one
 pub record Good (cat : Catalogue) (set : Bool) (c : Change) : Type 0 where
@@ -144,7 +144,7 @@ abbrev pub GoodChanges : Catalogue → Bool → Changes → Type 0
 GoodChanges cat set d = (k : ℕ) → GoodAt cat set k (d k)
 
 module _ (cat : Catalogue) (set : Bool) where
-  pub latest_good : (d : Data) → All (Good cat set) d → GoodChanges cat set (latest d)
+  pub latest_good : (d : Data) → AllByRecursion (Good cat set) d → GoodChanges cat set (latest d)
   unfolding latest
   latest_good [] h k = tt
   latest_good (c ∷ cs) h k =

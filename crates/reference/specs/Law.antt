@@ -2,7 +2,7 @@
 -- arguments with what it answered; nothing of a receiver's state or steps stands in it.
 use Rattle.std.specs.Prelude.{◌≡◌, ℕ, zero, suc, ◌+◌, Bool, true, false, cond, ◌&&◌, ◌||◌, List, [], ◌∷◌, ◌++◌, map, length, take, Some, None, Ok, Err, Option, Result, ◌==◌, ◌≢◌}
 use Rattle.std.specs.Option.{unwrap_or}
-use Rattle.std.specs.List.{AllByRecursion as All}
+use Rattle.std.specs.List.{AllByRecursion}
 use Rattle.frame.specs.Frames.{Message, carrying}
 use Rattle.frame.specs.Scanning.{Hearing, scanned, NoneSwallowed}
 use Rattle.layer.specs.Settings.{value_under}
@@ -241,6 +241,6 @@ pub record Law (p : Parts) (h : History) (ram bbr flash : Settings) : Type 0 whe
   -- what is heard is told, at every moment
   pub telling : Throughout ToldAsHeard h
   -- a told configuration frame gets one verdict
-  pub verdicts : All OneVerdict h
+  pub verdicts : AllByRecursion OneVerdict h
   -- lookings and restarts on the way are answered as looking back finds then
   pub showing : Throughout (ShownAsFound p) h

@@ -1,7 +1,7 @@
 -- Rules: a whole configuration, one value for each item of a catalogue, is fit, or one item is named.
 use Rattle.std.specs.Prelude.{◌≡◌, ℕ, suc, ◌<◌, min, Bool, true, false, cond, not, ◌&&◌, List, [], ◌∷◌, map, length, is_ok, Some, None, Option, ◌==◌, ◌≢◌, nat_lt, slice_index, slice_set}
 use Rattle.std.specs.Option.{option_or}
-use Rattle.std.specs.List.{AllByRecursion as All}
+use Rattle.std.specs.List.{AllByRecursion}
 use Rattle.catalogue.specs.declared.entries.Entry.{Entry}
 use Rattle.catalogue.specs.Catalogues.{allows, catalogue_checked}
 use Rattle.rule.specs.declared.need.Need.{Need}
@@ -43,7 +43,7 @@ first_broken (n ∷ ns) es vs = let rest : Option ℕ = first_broken ns es vs in
 -- Setting an item that is first in no pair to a value other than 0 breaks no pair.
 abbrev pub Eases : List Need → List Entry → List ℕ → Type 0
 Eases ns es vs =
-    (i v : ℕ) → All (λ n. n.first ≢ i) ns → (v ≢ 0) → first_broken ns es vs ≡ None → first_broken ns es (slice_set vs i v) ≡ None
+    (i v : ℕ) → AllByRecursion (λ n. n.first ≢ i) ns → (v ≢ 0) → first_broken ns es vs ≡ None → first_broken ns es (slice_set vs i v) ≡ None
 
 -- two rules together, the first's finding first
 abbrev pub both_find : Finding → Finding → Finding

@@ -5,11 +5,11 @@ use Rattle.item.proofs.value.number_of.Goals as goal
 pub loop-left-init : goal.loop-left-init
 loop-left-init c = read_none _
 
-pub overflow-mul-number : goal.overflow-mul-number
-overflow-mul-number c = let h = read_fits_lem _ _ _ c.loop-left.invariant c.loop-left-test.true c.requires in search rules
+pub overflow_mul-number : goal.overflow_mul-number
+overflow_mul-number c = let h = read_fits_lem _ _ _ c.loop-left.invariant c.loop-left-test.true c.requires in search rules
 
-pub overflow-add-number : goal.overflow-add-number
-overflow-add-number c = let h = read_fits_lem _ _ _ c.loop-left.invariant c.loop-left-test.true c.requires in search rules
+pub overflow_add-number : goal.overflow_add-number
+overflow_add-number c = let h = read_fits_lem _ _ _ c.loop-left.invariant c.loop-left-test.true c.requires in search rules
 
 pub loop-left-preserved : goal.loop-left-preserved
 loop-left-preserved c = read_more _ _ _ c.loop-left.invariant c.loop-left-test.true (search rules)

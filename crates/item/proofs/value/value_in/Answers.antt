@@ -7,6 +7,6 @@ pub returns : goal.returns
 returns c =
     let width : c.width.result - 0 ≡ width_of c.args.size = omega arith in
     let part : take (c.width.result - 0) c.args.bytes.now ≡ take (width_of c.args.size) c.args.bytes.now = ap (λ w. take w c.args.bytes.now) width in
-    let all = value_is c.args.size c.args.bytes.now _ c.number-of-number.result c.kept.result part c.requires c.number-of-number.ensures.value
-    c.number-of-number.ensures.bound c.number-of-number.ensures.back c.kept.ensures in
+    let all = value_is c.args.size c.args.bytes.now _ c.number_of-number.result c.kept.result part c.requires c.number_of-number.ensures.value
+    c.number_of-number.ensures.bound c.number_of-number.ensures.back c.kept.ensures in
     record { value = all.0; read = all.1 }

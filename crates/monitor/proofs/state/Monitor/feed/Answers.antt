@@ -7,7 +7,7 @@ pub pass-requires : goal.pass-requires
 pass-requires c =
     let told = c.in-Ok.ensures in
     let within = told.within in
-    let all = length-append c.as-slice.result.now c.args.piece.now in
+    let all = length-append c.as_slice.result.now c.args.piece.now in
     (omega arith, (told.few_rows, told.few_noise))
 
 pub returns-in-Ok : goal.returns-in-Ok
@@ -15,7 +15,7 @@ returns-in-Ok c =
     let before = progress_of c.args.self.now in
     let piece = c.args.piece.now in
     let told : Brings before.place (before.held ++ piece) c.in-Ok.brought =
-    subst (λ (held : List ℕ). Brings before.place (held ++ piece) c.in-Ok.brought) c.as-slice.ensures.value c.in-Ok.ensures in
+    subst (λ (held : List ℕ). Brings before.place (held ++ piece) c.in-Ok.brought) c.as_slice.ensures.value c.in-Ok.ensures in
     let rows : vec_items c.pass.result ≡ rows_of (scanned_on before piece) = ap vec_items c.pass.ensures.rows ∙ told.rows in
     let after = passed_is before (progress_of c.pass.new.self) piece c.in-Ok.brought told c.pass.ensures.after in
     let items = c.args.self.now.held.ok.0 in

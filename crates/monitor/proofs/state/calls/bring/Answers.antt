@@ -8,19 +8,19 @@ use Rattle.monitor.proofs.state.calls.bring.Goals as goal
 
 pub rows-requires : goal.rows-requires
 rows-requires c =
-    let told = c.in-ok-listing.ensures in
-    let bytes = c.in-ok-bytes.ensures.len in
-    let more = c.in-ok-extend-from-slice.ensures.len in
+    let told = c.in_ok-listing.ensures in
+    let bytes = c.in_ok-bytes.ensures.len in
+    let more = c.in_ok-extend_from_slice.ensures.len in
     let len = c.deref.ensures.len in
     subst (Placed c.args.place) (sym c.deref-2.ensures.value)
-    (places_fit c.args.place (length c.deref.result.now) (vec_items c.in-ok-listing.listing.frames) told.promised.within (omega (arith, bytes, more, len)))
+    (places_fit c.args.place (length c.deref.result.now) (vec_items c.in_ok-listing.listing.frames) told.promised.within (omega (arith, bytes, more, len)))
 
 pub returns : goal.returns
 returns c =
-    let told = c.in-ok-listing.ensures in
-    let listing = c.in-ok-listing.listing in
+    let told = c.in_ok-listing.ensures in
+    let listing = c.in_ok-listing.listing in
     let bytes : List ℕ = c.args.held.now ++ c.args.piece.now in
     let same : c.deref.result.now ≡ bytes =
-    c.deref.ensures.value ∙ pushed c.args.piece.now c.in-ok-bytes.ensures.items c.in-ok-extend-from-slice.was c.extend-from-slice.ensures.items in
+    c.deref.ensures.value ∙ pushed c.args.piece.now c.in_ok-bytes.ensures.items c.in_ok-extend_from_slice.was c.extend_from_slice.ensures.items in
     brings c.args.place bytes listing _ (told.value ∙ ap scanned same) (subst (λ (bs : List ℕ). Promised bs (scanned_of listing)) same told.promised)
-    (c.in-ok-rows.ensures ∙ ap (map (row_at c.args.place)) c.deref-2.ensures.value) refl refl c.in-ok-rest.ensures.items
+    (c.in_ok-rows.ensures ∙ ap (map (row_at c.args.place)) c.deref-2.ensures.value) refl refl c.in_ok-rest.ensures.items

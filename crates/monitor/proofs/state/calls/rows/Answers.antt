@@ -4,13 +4,13 @@ use Rattle.std.proofs.lemmas.List.{map_more, take_all}
 use Rattle.monitor.specs.Following.{row_at}
 use Rattle.monitor.proofs.state.calls.rows.Goals as goal
 
-pub row-of-requires : goal.row-of-requires
-row-of-requires c = All-get_or _ c.args.frames.now c.loop-heard.heard-index _ c.loop-heard-test.true c.requires
+pub row_of-requires : goal.row_of-requires
+row_of-requires c = All-get_or _ c.args.frames.now c.loop-heard.heard-index _ c.loop-heard-test.true c.requires
 
 pub loop-heard-preserved : goal.loop-heard-preserved
 loop-heard-preserved c =
-    c.in-ok-push.ensures.items ∙ ap (λ rs. rs ++ c.row-of.result ∷ []) c.loop-heard.invariant
-    ∙ ap (λ r. map (row_at c.args.place) (take c.loop-heard.heard-index c.args.frames.now) ++ r ∷ []) c.row-of.ensures
+    c.in_ok-push.ensures.items ∙ ap (λ rs. rs ++ c.row_of.result ∷ []) c.loop-heard.invariant
+    ∙ ap (λ r. map (row_at c.args.place) (take c.loop-heard.heard-index c.args.frames.now) ++ r ∷ []) c.row_of.ensures
     ∙ sym (map_more (row_at c.args.place) c.args.frames.now c.loop-heard.heard-index _ c.loop-heard-test.true)
 
 pub returns : goal.returns
