@@ -1,7 +1,7 @@
 -- The set-up of a receiver: its two places, and what it begins with.
-use Rattle.std.specs.Prelude.{◌≡◌, ℕ, List, [], vec_items}
+use Rattle.std.specs.Prelude.{◌≡◌, ℕ, [], vec_items}
 use Rattle.store.specs.declared.any.AnyStore.{AnyStore}
-use Rattle.store.specs.Any.{any_settings, any_usable, any_kind}
+use Rattle.store.specs.Any.{any_settings, any_kind}
 use Rattle.script.specs.declared.command.Choice.{Choice}
 use Rattle.script.specs.declared.command.Choice.TheVariants.{Slots, Absent, SavedSlots, SavedAbsent}
 use Rattle.script.specs.declared.command.Place.{Place}

@@ -9,7 +9,7 @@ pub loop-item-preserved : goal.loop-item-preserved
 loop-item-preserved c = let next = c.in-Some.ensures in search (rules, removing_more)
 
 pub returns-then-from-eq0 : goal.returns-then-from-eq0
-returns-then-from-eq0 c = let none = c.in-default.ensures in search (rules, removing_none)
+returns-then-from-eq0 c = let none = c.in_default.ensures in search (rules, removing_none)
 
 pub returns : goal.returns
-returns c = let none = c.in-default.ensures in search (rules, removing_end)
+returns c = let none = c.in_default.ensures in search (rules, removing_end)

@@ -2,8 +2,8 @@ use Rattle.std.proofs.Common.{◌^◌, rules}
 use Rattle.script.proofs.Numbers.{read_stops, read_more, read_all}
 use Rattle.script.proofs.number.digits_in.Goals as goal
 
-pub returns-in-default : goal.returns-in-default
-returns-in-default c = read_stops (2 ^ 64) c.args.base c.loop-byte.number c.loop-byte.byte-index c.args.digits.now _ (search rules) (search rules) c.loop-byte.invariant.1
+pub returns-in_default : goal.returns-in_default
+returns-in_default c = read_stops (2 ^ 64) c.args.base c.loop-byte.number c.loop-byte.byte-index c.args.digits.now _ (search rules) (search rules) c.loop-byte.invariant.1
 
 pub loop-byte-preserved : goal.loop-byte-preserved
 loop-byte-preserved c = (
