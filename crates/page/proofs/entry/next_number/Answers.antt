@@ -5,16 +5,16 @@ use Rattle.page.proofs.entry.next_number.Goals as goal
 pub returns-then-left-eq0 : goal.returns-then-left-eq0
 returns-then-left-eq0 c = search (rules, number_many)
 
-pub returns-in-Some-next-named : goal.returns-in-Some-next-named
-returns-in-Some-next-named c =
+pub returns-in-Some-next_named : goal.returns-in-Some-next_named
+returns-in-Some-next_named c =
     let number = c.in-Some.ensures in
-    let named = c.in-Some-next-named.ensures.next in
+    let named = c.in-Some-next_named.ensures.next in
     search (rules, number_known)
 
-pub returns-in-None-next-named : goal.returns-in-None-next-named
-returns-in-None-next-named c =
+pub returns-in-None-next_named : goal.returns-in-None-next_named
+returns-in-None-next_named c =
     let number = c.in-Some.ensures in
-    let named = c.in-None-next-named.ensures.next in
+    let named = c.in-None-next_named.ensures.next in
     search (rules, number_unknown)
 
 pub returns-in-None : goal.returns-in-None

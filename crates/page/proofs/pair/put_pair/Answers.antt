@@ -2,8 +2,8 @@ use Rattle.std.proofs.Common.{rules}
 use Rattle.page.proofs.Pairs.{value_fits, has_size, width_few, length_pair, pair_written}
 use Rattle.page.proofs.pair.put_pair.Goals as goal
 
-pub put-value-requires : goal.put-value-requires
-put-value-requires c =
+pub put_value-requires : goal.put_value-requires
+put_value-requires c =
     let size = c.in-Some.ensures in
     let few = width_few c.in-Some.size in
     search (rules, value_fits)
