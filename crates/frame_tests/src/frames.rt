@@ -73,8 +73,8 @@ fn writes_the_set_request(rt: HostRuntime) -> Result<(), Fail> {
     let mut out = [0xeeu8; 20];
     let size = write_frame(&mut out, 0x06, 0x8a, &SET[6..15])?;
     assert_eq!(rt; size, 17);
-    assert!(rt; &out[0..17] == &SET);
-    assert!(rt; &out[17..20] == &[0xee, 0xee, 0xee]);
+    assert!(rt; &out[0..17] == SET.as_slice());
+    assert!(rt; &out[17..20] == [0xee, 0xee, 0xee].as_slice());
     Ok(())
 }
 
@@ -92,7 +92,7 @@ fn a_refused_frame_leaves_the_buffer(rt: HostRuntime) {
         write_frame(&mut long, 0x06, 0x8a, &payload),
         Err(WriteFault::PayloadTooLong)
     );
-    assert!(rt; &long[0..8] == &[0xee; 8]);
+    assert!(rt; &long[0..8] == [0xee; 8].as_slice());
     assert_eq!(rt;
         write_frame(&mut long, 0x06, 0x8a, &payload[0..MAX_PAYLOAD]),
         Ok(MAX_FRAME)

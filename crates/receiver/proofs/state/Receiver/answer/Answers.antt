@@ -7,8 +7,8 @@ use Rattle.receiver.proofs.state.Receiver.answer.Goals as goal
 pub returns-then-self : goal.returns-then-self
 returns-then-self g c = search (rules, shut_state, shut_event, refused_count, refused_buffer, refused_leaves, nak_leaves, all_or_none)
 
-pub returns-then-out-lt-ANSWER-ROOM : goal.returns-then-out-lt-ANSWER-ROOM
-returns-then-out-lt-ANSWER-ROOM g c = search (rules, short_state, short_event, refused_count, refused_buffer, refused_leaves, nak_leaves, all_or_none)
+pub returns-then-out-lt-ANSWER_ROOM : goal.returns-then-out-lt-ANSWER_ROOM
+returns-then-out-lt-ANSWER_ROOM g c = search (rules, short_state, short_event, refused_count, refused_buffer, refused_leaves, nak_leaves, all_or_none)
 
 pub returns : goal.returns
 returns g c =
@@ -16,11 +16,11 @@ returns g c =
     let cat = items_of before in
     let rule = g.R.Rule.finding before.rule in
     let s = state_of g.B.Store.usable g.B.Layer.settings g.F.Store.usable g.F.Layer.settings before in
-    let t = state_of g.B.Store.usable g.B.Layer.settings g.F.Store.usable g.F.Layer.settings c.answer-first.new.self in
+    let t = state_of g.B.Store.usable g.B.Layer.settings g.F.Store.usable g.F.Layer.settings c.answer_first.new.self in
     let old = c.args.out.now in
-    let out = c.answer-first.new.out in
-    let a = c.answer-first.result in
-    let told = c.answer-first.ensures in
+    let out = c.answer_first.new.out in
+    let a = c.answer_first.result in
+    let told = c.answer_first.ensures in
     let off : s.shut ≡ false = search rules in
     let room : 790 ≤ length old = search rules in
     let state = answer_state cat rule s (length old) t old out a off room told.answering in

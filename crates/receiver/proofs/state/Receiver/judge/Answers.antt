@@ -8,5 +8,5 @@ returns-then-payload-lt4 g c = search (rules, judged_short)
 pub returns-else-payload-lt4 : goal.returns-else-payload-lt4
 returns-else-payload-lt4 g c = search (rules, judged_request)
 
-pub returns-else-is-request : goal.returns-else-is-request
-returns-else-is-request g c = search (rules, judged_other)
+pub returns-else-is_request : goal.returns-else-is_request
+returns-else-is_request g c = search (rules, judged_other)

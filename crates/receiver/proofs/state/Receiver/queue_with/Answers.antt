@@ -5,5 +5,5 @@ use Rattle.receiver.proofs.state.Receiver.queue_with.Goals as goal
 
 pub returns : goal.returns
 returns g c =
-    let join = c.and-later.ensures (items_of c.args.self.now) in
+    let join = c.and_later.ensures (items_of c.args.self.now) in
     search (rules, later_queue)

@@ -8,14 +8,14 @@ returns-in-0 g c = search (rules, page_value, page_out_lem, layer_ram)
 pub returns-in-1 : goal.returns-in-1
 returns-in-1 g c = search (rules, page_value, page_out_lem, layer_bbr)
 
-pub returns-then-is-usable : goal.returns-then-is-usable
-returns-then-is-usable g c = search (rules, page_value, page_out_lem, layer_flash)
+pub returns-then-is_usable : goal.returns-then-is_usable
+returns-then-is_usable g c = search (rules, page_value, page_out_lem, layer_flash)
 
-pub returns-else-is-usable : goal.returns-else-is-usable
-returns-else-is-usable g c = search (rules, no_page, no_page_out, layer_unusable)
+pub returns-else-is_usable : goal.returns-else-is_usable
+returns-else-is_usable g c = search (rules, no_page, no_page_out, layer_unusable)
 
 pub returns-in-7 : goal.returns-in-7
 returns-in-7 g c = search (rules, page_value, page_out_lem, layer_defaults)
 
-pub returns-in-default : goal.returns-in-default
-returns-in-default g c = search (rules, no_page, no_page_out, layer_none)
+pub returns-in_default : goal.returns-in_default
+returns-in_default g c = search (rules, no_page, no_page_out, layer_none)
