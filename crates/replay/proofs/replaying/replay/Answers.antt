@@ -10,10 +10,10 @@ pub returns : goal.returns
 returns g c =
     let made = c.make.result in
     let told = c.make.ensures in
-    made_so c.carry-all.result _ _
+    made_so c.carry_all.result _ _
     (λ x e.
     replays
     (parts_of c.args.entries.now (g.R.Rule.finding c.args.rule) (store_of g.B.Store.usable g.B.Layer.settings c.args.bbr) (store_of g.F.Store.usable g.F.Layer.settings c.args.flash))
     (items_of made) (g.R.Rule.finding made.rule) (map asking_of c.args.calls.now) told.items (ap g.R.Rule.finding told.rule)
     (state_of g.B.Store.usable g.B.Layer.settings g.F.Store.usable g.F.Layer.settings made) told.state told.law (vec_items x.log)
-    (state_of g.B.Store.usable g.B.Layer.settings g.F.Store.usable g.F.Layer.settings x.receiver) e) c.carry-all.ensures
+    (state_of g.B.Store.usable g.B.Layer.settings g.F.Store.usable g.F.Layer.settings x.receiver) e) c.carry_all.ensures
