@@ -45,8 +45,8 @@ fn a_value_out_of_range_is_refused(rt: HostRuntime) -> Result<(), Fail> {
     let telling = telling_of(receiver.answer(&mut out)?)?;
     assert_eq!(rt; telling.noise, 0);
     assert_eq!(rt; telling.length, 10);
-    assert!(rt; &out[0..10] == &SET_NAK);
-    assert!(rt; &out[10..20] == &[0; 10]);
+    assert!(rt; &out[0..10] == SET_NAK.as_slice());
+    assert!(rt; &out[10..20] == [0; 10].as_slice());
     match telling.verdict {
         Verdict::Nak(refusal) => {
             assert_eq!(rt; refusal.number(), 21);

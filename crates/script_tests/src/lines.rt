@@ -76,7 +76,7 @@ fn takes(rt: HostRuntime) -> Result<(), Fail> {
     let Ok(Some(Command::Call(OwnCall::Take(bytes)))) = read_line(heap, "take b5  62\t6 0A") else {
         return Err(Fail::new("no piece"));
     };
-    assert!(rt; bytes.as_slice() == &[0xb5, 0x62, 0x06, 0x0a]);
+    assert!(rt; bytes.as_slice() == [0xb5, 0x62, 0x06, 0x0a].as_slice());
     let Ok(Some(Command::Call(OwnCall::Take(none)))) = read_line(heap, "take") else {
         return Err(Fail::new("no piece of no bytes"));
     };
