@@ -10,14 +10,18 @@ use help::HELP;
 use listing::list;
 use options::{Options, read_options};
 use std::io::{BufWriter, Write};
+use std::process::ExitCode;
 use std::{env, fs};
 
-fn main(rt: HostRuntime) -> anyhow::Result<()> {
-    let result = run(&rt);
-    if let Err(fault) = &result {
-        let _ = eprintln!(rt; "ubxmon: {fault}");
+// A failure is said once, by the program's name; a returned error would be printed by the runtime as well.
+fn main(rt: HostRuntime) -> ExitCode {
+    match run(&rt) {
+        Ok(()) => ExitCode::SUCCESS,
+        Err(fault) => {
+            let _ = eprintln!(rt; "ubxmon: {fault}");
+            ExitCode::FAILURE
+        }
     }
-    result
 }
 
 fn run(rt: &HostRuntime) -> anyhow::Result<()> {

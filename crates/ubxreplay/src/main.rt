@@ -12,14 +12,18 @@ use options::{Options, read_options};
 use session::Session;
 use std::alloc::Global;
 use std::io::{BufWriter, Write};
+use std::process::ExitCode;
 use std::{env, fs, io};
 
-fn main(rt: HostRuntime) -> anyhow::Result<()> {
-    let result = run(&rt);
-    if let Err(fault) = &result {
-        let _ = eprintln!(rt; "ubxreplay: {fault}");
+// A failure is said once, by the program's name; a returned error would be printed by the runtime as well.
+fn main(rt: HostRuntime) -> ExitCode {
+    match run(&rt) {
+        Ok(()) => ExitCode::SUCCESS,
+        Err(fault) => {
+            let _ = eprintln!(rt; "ubxreplay: {fault}");
+            ExitCode::FAILURE
+        }
     }
-    result
 }
 
 fn run(rt: &HostRuntime) -> anyhow::Result<()> {
