@@ -10,14 +10,14 @@ use Rattle.frame.specs.declared.scanner.Listing.{Listing}
 use Rattle.frame.proofs.Scanning.{scan_moved, promised}
 use Rattle.monitor.specs.declared.row.Row.{Row}
 use Rattle.monitor.specs.declared.state.calls.Brought.{Brought}
-use Rattle.monitor.specs.Following.{Progress, reached, scanned_on, progress_on, row_of, row_at, rows_of, Placed, Brings, passed}
+use Rattle.monitor.specs.Following.{Progress, reached, scanned_on, progress_on, hearing_row, row_at, rows_of, Placed, Brings, passed}
 
 -- places within the bytes stay below the line's end
 pub places_fit : (p n : ℕ) (hs : List Heard) → AllByRecursion (λ h. h.place + size_of h.message ≤ n) (map hearing_of hs) → p + n < 2 ^ 64 → Placed p hs
 places_fit p n [] w e = tt
 places_fit p n (h ∷ hs) w e = (omega (arith, w.0), places_fit p n hs w.1 e)
 
-rows_are : (p : ℕ) (hs : List Heard) → map (row_at p) hs ≡ map row_of (map (moved_hearing p) (map hearing_of hs))
+rows_are : (p : ℕ) (hs : List Heard) → map (row_at p) hs ≡ map hearing_row (map (moved_hearing p) (map hearing_of hs))
 rows_are p [] = refl
 rows_are p (h ∷ hs) = ap (λ (rs : List Row). row_at p h ∷ rs) (rows_are p hs)
 
@@ -34,7 +34,7 @@ brings p bs l b e pr rows decided noise rest =
     let on : scan_from p 0 bs ≡ moved p (scanned_of l) = ap (λ n. scan_from n 0 bs) (sym (add-zero p)) ∙ scan_moved p 0 0 bs ∙ ap (moved p) (sym e) in
     let all : vec_items b.rows ≡ rows_of (scan_from p 0 bs) = rows ∙ rows_are p (vec_items l.frames) ∙ sym (ap rows_of on) in
     let len : length (vec_items b.rows) ≡ length (vec_items l.frames) = ap length rows ∙ length-map _ _ in
-    let heard : length (vec_items b.rows) ≡ length (scan_from p 0 bs).heard = ap length all ∙ length-map (scan_from p 0 bs).heard row_of in
+    let heard : length (vec_items b.rows) ≡ length (scan_from p 0 bs).heard = ap length all ∙ length-map (scan_from p 0 bs).heard hearing_row in
     let items = b.rows.ok.0 in
     let f = few (scanned_of l).heard in
     let g = length-map (vec_items l.frames) hearing_of in
@@ -66,6 +66,6 @@ follows_on p piece bs rows e is =
       ap (λ (x : Progress). progress_on x (scanned_on x piece)) e
           ∙ ap (λ n. record { place = t.rest_place; held = t.rest; frames = n; noise = s.noise + t.noise }) (sym count)
           ∙ sym (ap (λ (x : Scanned). record { place = x.rest_place; held = x.rest; frames = length x.heard; noise = x.noise }) all),
-      ap rows_of all ∙ map-append row_of s.heard t.heard
+      ap rows_of all ∙ map-append hearing_row s.heard t.heard
           ∙ ap (λ (rs : List Row). rows_of s ++ rs) (sym (is ∙ ap (λ (x : Progress). rows_of (scanned_on x piece)) e)),
     )

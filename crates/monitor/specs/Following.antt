@@ -36,19 +36,19 @@ scanned_on p piece = scan_from p.place 0 (p.held ++ piece)
 abbrev pub progress_on : Progress → Scanned → Progress
 progress_on p s = record { place = s.rest_place; held = s.rest; frames = p.frames + length s.heard; noise = p.noise + s.noise }
 
-abbrev pub row_of : Hearing → Row
-row_of h = record { place = h.place; class = h.message.class; id = h.message.id; len = length h.message.payload }
+abbrev pub hearing_row : Hearing → Row
+hearing_row h = record { place = h.place; class = h.message.class; id = h.message.id; len = length h.message.payload }
 
 -- of a frame that was heard in bytes which begin at this place of the line
 abbrev pub row_at : ℕ → Heard → Row
-row_at p h = row_of (moved_hearing p (hearing_of h))
+row_at p h = hearing_row (moved_hearing p (hearing_of h))
 
 -- their places on the line can be told
 abbrev pub Placed : ℕ → List Heard → Type 0
 Placed p hs = AllByRecursion (λ h. p + h.place < 2 ^ 64) hs
 
 abbrev pub rows_of : Scanned → List Row
-rows_of s = map row_of s.heard
+rows_of s = map hearing_row s.heard
 
 -- how many bytes the line would have had with this piece
 abbrev pub line_length : Progress → List ℕ → ℕ
