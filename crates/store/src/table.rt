@@ -6,7 +6,7 @@ use crate::slot::Slot;
 
 pub mod calls;
 
-#[derive(Clone, Copy)]
+#[derive(Drop)]
 pub struct SlotTable {
     slots: [Slot; 128],
     ghost whole: { length slots ≡ 128 },

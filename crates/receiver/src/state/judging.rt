@@ -31,7 +31,7 @@ impl<B: Store, F: Store, R: Rule> Receiver<B, F, R> {
         ensures { result ≡ apply_fault (items_of self.now) (R.Rule.finding self.now.rule) (state_of B.Store.usable B.Layer.settings F.Store.usable F.Layer.settings self.now) layers (changes_by (items_of self.now) changes.now.slots) }
     {
         if layers.ram {
-            let mut ram = self.ram;
+            let mut ram = self.ram.copied();
             apply_changes(&self.layers.lower.catalogue, changes, &mut ram);
             fault_in(&self.layers.lower.catalogue, &ram, &self.rule)
         } else {

@@ -18,6 +18,13 @@ impl SlotTable {
         SlotTable { slots: [FREE; 128] }
     }
 
+    // Another table that holds the same, to try a change on.
+    pub fn copied(&self) -> SlotTable
+        ensures { settings_of result.slots ≡ settings_of self.now.slots }
+    {
+        SlotTable { slots: self.slots }
+    }
+
     // The slot that is used for a key.
     fn place_of(&self, key: u32) -> Option<usize>
         ensures { MatchOption result (Missing key self.now.slots) (λ i. Found key self.now.slots i) }
