@@ -1,20 +1,19 @@
 -- Sums over bytes, one byte further and at the end.
 use Rattle.std.proofs.Common.{◌≡◌, ℕ, zero, suc, ◌+◌, ◌-◌, ◌*◌, ◌/◌, ◌%◌, ◌<◌, ◌≤◌, List, [], ◌∷◌, ◌++◌, length, get_or, take, drop, sym, refl, ap, ◌∙◌, append_assoc, append-nil, suc-mul, add-mul, suc-add, one-mul, mul-zero, zero-mul, mul-add, mul_left_comm, arith, take-add}
 use native.Mathlib.Nat.{mod-add-div}
+use Rattle.std.specs.List.{fold}
 use Rattle.std.proofs.lemmas.List.{at_drop_more, at_drop_all, length-take-le, length-drop, drop-drop}
 use Rattle.frame.specs.declared.sums.CheckBytes.{CheckBytes}
 use Rattle.frame.specs.Checksum.{with_byte, summed, no_sums, check_bytes, running_sums, sums_between}
 
--- a loop over the bytes: one turn, and the end
-pub summed_more : (s : CheckBytes) (bs : List ℕ) (i : ℕ) (t : CheckBytes) → i < length bs → summed s (drop i bs) ≡ check_bytes bs → t ≡ with_byte s (get_or bs i 0)
-    → summed t (drop (i + 1) bs) ≡ check_bytes bs
+-- a fold over the bytes
+fold-with_byte : (s : CheckBytes) (bs : List ℕ) → fold with_byte s bs ≡ summed s bs
 unfolding summed
-summed_more s bs i t lt inv e =
-    ap (λ (u : CheckBytes). summed u (drop (i + 1) bs)) e ∙ sym (at_drop_more (summed s) bs i 0 lt) ∙ inv
+fold-with_byte s [] = refl
+fold-with_byte s (x ∷ xs) = fold-with_byte (with_byte s x) xs
 
-pub summed_all : (s : CheckBytes) (bs : List ℕ) (i : ℕ) → length bs ≤ i → summed s (drop i bs) ≡ check_bytes bs → s ≡ check_bytes bs
-unfolding summed
-summed_all s bs i le inv = sym (at_drop_all (summed s) bs i le) ∙ inv
+pub folded : (bs : List ℕ) (start s : CheckBytes) → start ≡ no_sums → s ≡ fold with_byte start bs → s ≡ check_bytes bs
+folded bs start s none e = e ∙ ap (λ (t : CheckBytes). fold with_byte t bs) none ∙ fold-with_byte no_sums bs
 
 -- Sums over one run of bytes behind another
 

@@ -38,7 +38,7 @@ fn payload_size(bytes: &[u8]) -> Result<usize, Unheard>
     if bytes.len() < HEADER {
         return Err(Unheard::Undecided);
     }
-    let count = bytes[4] as usize + 256 * bytes[5] as usize;
+    let count = u16::from_le_bytes([bytes[4], bytes[5]]) as usize;
     if count > MAX_PAYLOAD {
         return Err(Unheard::Noise);
     }
