@@ -1,20 +1,19 @@
 -- Sums over bytes, one byte further and at the end.
 use Rattle.std.proofs.Common.{◌≡◌, ℕ, zero, suc, ◌+◌, ◌-◌, ◌*◌, ◌/◌, ◌%◌, ◌<◌, ◌≤◌, List, [], ◌∷◌, ◌++◌, length, get_or, take, drop, sym, refl, ap, ◌∙◌, append_assoc, append-nil, suc-mul, add-mul, suc-add, one-mul, mul-zero, zero-mul, mul-add, mul_left_comm, arith, take-add}
 use native.Mathlib.Nat.{mod-add-div}
-use Rattle.std.proofs.lemmas.List.{at_drop_more, at_drop_all, length-take-le, length-drop}
+use Rattle.std.specs.List.{fold}
+use Rattle.std.proofs.lemmas.List.{at_drop_more, at_drop_all, length-take-le, length-drop, drop-drop}
 use Rattle.frame.specs.declared.sums.CheckBytes.{CheckBytes}
 use Rattle.frame.specs.Checksum.{with_byte, summed, no_sums, check_bytes, running_sums, sums_between}
 
--- a loop over the bytes: one turn, and the end
-pub summed_more : (s : CheckBytes) (bs : List ℕ) (i : ℕ) (t : CheckBytes) → i < length bs → summed s (drop i bs) ≡ check_bytes bs → t ≡ with_byte s (get_or bs i 0)
-    → summed t (drop (i + 1) bs) ≡ check_bytes bs
+-- a fold over the bytes
+fold-with_byte : (s : CheckBytes) (bs : List ℕ) → fold with_byte s bs ≡ summed s bs
 unfolding summed
-summed_more s bs i t lt inv e =
-    ap (λ (u : CheckBytes). summed u (drop (i + 1) bs)) e ∙ sym (at_drop_more (summed s) bs i 0 lt) ∙ inv
+fold-with_byte s [] = refl
+fold-with_byte s (x ∷ xs) = fold-with_byte (with_byte s x) xs
 
-pub summed_all : (s : CheckBytes) (bs : List ℕ) (i : ℕ) → length bs ≤ i → summed s (drop i bs) ≡ check_bytes bs → s ≡ check_bytes bs
-unfolding summed
-summed_all s bs i le inv = sym (at_drop_all (summed s) bs i le) ∙ inv
+pub folded : (bs : List ℕ) (start s : CheckBytes) → start ≡ no_sums → s ≡ fold with_byte start bs → s ≡ check_bytes bs
+folded bs start s none e = e ∙ ap (λ (t : CheckBytes). fold with_byte t bs) none ∙ fold-with_byte no_sums bs
 
 -- Sums over one run of bytes behind another
 
@@ -79,26 +78,38 @@ is_byte xs =
     let b₀ = summed_b no_sums xs (omega arith, omega arith) in
     (omega arith, omega arith)
 
-running_at : (s : CheckBytes) (bs : List ℕ) (k : ℕ) → k < length bs → get_or (running_sums s bs) k no_sums ≡ summed s (take (suc k) bs)
+running_at : (s : CheckBytes) (bs : List ℕ) (k : ℕ) (d : CheckBytes) → k < length bs → get_or (running_sums s bs) k d ≡ summed s (take (suc k) bs)
 unfolding running_sums summed
-running_at s [] k lt = absurd (omega arith)
-running_at s (x ∷ xs) zero lt = refl
-running_at s (x ∷ xs) (suc k) lt = running_at (with_byte s x) xs k (omega arith)
+running_at s [] k d lt = absurd (omega arith)
+running_at s (x ∷ xs) zero d lt = refl
+running_at s (x ∷ xs) (suc k) d lt = running_at (with_byte s x) xs k d (omega arith)
 
 -- the check bytes of the n bytes from i + 1 on, by the running sums
-pub window_sums : (bs : List ℕ) (i n : ℕ) → i + n < length bs
-    → sums_between (get_or (running_sums no_sums bs) i no_sums) (get_or (running_sums no_sums bs) (i + n) no_sums) n ≡ check_bytes (take n (drop (i + 1) bs))
-window_sums bs i n lt =
+window_sums : (bs : List ℕ) (i n : ℕ) (d e : CheckBytes) → i + n < length bs
+    → sums_between (get_or (running_sums no_sums bs) i d) (get_or (running_sums no_sums bs) (i + n) e) n ≡ check_bytes (take n (drop (i + 1) bs))
+window_sums bs i n d e lt =
     let w : List ℕ = take n (drop (suc i) bs) in
     let rest = length-drop (suc i) bs in
     let long : length w ≡ n = length-take-le n (drop (suc i) bs) (omega arith) in
-    let front = running_at no_sums bs i (omega arith) in
+    let front = running_at no_sums bs i d (omega arith) in
     let split : take (suc (i + n)) bs ≡ take (suc i) bs ++ w = ap (λ k. take k bs) (sym (suc-add i n)) ∙ take-add (suc i) n bs in
-    let back = running_at no_sums bs (i + n) lt ∙ ap (summed no_sums) split ∙ summed_append no_sums (take (suc i) bs) w in
+    let back = running_at no_sums bs (i + n) e lt ∙ ap (summed no_sums) split ∙ summed_append no_sums (take (suc i) bs) w in
     let next : i + 1 ≡ suc i = omega arith in
     rw (front, back, next)
     (ap (sums_between (check_bytes (take (suc i) bs)) (summed (check_bytes (take (suc i) bs)) w)) (sym long)
     ∙ between_is (check_bytes (take (suc i) bs)) w (is_byte (take (suc i) bs)))
+
+-- and so those of the frame at a place, whose payload has n bytes
+pub frame_sums : (bs : List ℕ) (place n : ℕ) (running : List CheckBytes) (before behind s : CheckBytes) → running ≡ running_sums no_sums bs → place + 6 + n < length bs
+    → before ≡ get_or running (place + 1) before → behind ≡ get_or running (place + 1 + (4 + n)) behind → s ≡ sums_between before behind (4 + n)
+    → s ≡ check_bytes (take (4 + n) (drop 2 (drop place bs)))
+frame_sums bs place n running before behind s all lt p q e =
+    let next : place + 1 + 1 ≡ place + 2 = omega arith in
+    let front = p ∙ ap (λ (v : List CheckBytes). get_or v (place + 1) before) all in
+    let back = q ∙ ap (λ (v : List CheckBytes). get_or v (place + 1 + (4 + n)) behind) all in
+    e ∙ ap (λ (t : CheckBytes). sums_between t behind (4 + n)) front ∙ ap (λ (t : CheckBytes). sums_between (get_or (running_sums no_sums bs) (place + 1) before) t (4 + n)) back
+    ∙ window_sums bs (place + 1) (4 + n) before behind (omega arith)
+    ∙ ap (λ (xs : List ℕ). check_bytes (take (4 + n) xs)) (ap (λ k. drop k bs) next ∙ sym (drop-drop 2 place bs))
 
 -- a loop that makes the running sums: one turn, and the end
 pub running_more : (s : CheckBytes) (bs : List ℕ) (i : ℕ) (t : CheckBytes) (made more all : List CheckBytes) → i < length bs

@@ -1,14 +1,14 @@
 -- What stands at a byte: deciding is final, an intact frame fits the bytes, an undecided place is near the end, a written frame is intact.
-use Rattle.std.proofs.Common.{◌≡◌, ℕ, suc, ◌+◌, ◌-◌, ◌*◌, ◌/◌, ◌%◌, ◌<◌, ◌≤◌, Bool, true, false, cond, ◌&&◌, eqb, leb, ◌⊎◌, List, [], ◌∷◌, ◌++◌, length, get_or, take, drop, sym, refl, ap, ◌∙◌, inl, inr, ⊎_elim, arith}
+use Rattle.std.proofs.Common.{◌≡◌, ℕ, suc, ◌+◌, ◌-◌, ◌*◌, ◌/◌, ◌%◌, ◌<◌, ◌≤◌, Bool, true, false, cond, ◌&&◌, eqb, leb, ◌⊎◌, List, [], ◌∷◌, ◌++◌, length, get_or, take, drop, Ok, Err, Result, sym, refl, ap, ◌∙◌, inl, inr, ⊎_elim, arith}
 use Rattle.std.proofs.lemmas.List.{length-append, length-take-le, length-drop, take-append-le, drop-append-le, drop_all, take_at, drop_at, drop-drop, drop_more, get_or-drop}
 use Rattle.std.proofs.lemmas.Bool.{cases_lt, leb-true, le-leb, lt-leb, eq-eqb, ne_eqb, eqb-true, and_left, and_right, and_from, cond-true, cond-false}
 use Rattle.frame.specs.declared.sums.CheckBytes.{CheckBytes}
-use Rattle.frame.specs.declared.scanner.Start.{Start}
-use Rattle.frame.specs.declared.scanner.Start.TheVariants.{Noise, Undecided, Intact}
-use Rattle.frame.specs.Checksum.{no_sums, check_bytes, running_sums, sums_between}
+use Rattle.frame.specs.declared.format.Frame.{Frame}
+use Rattle.frame.specs.declared.scanner.Unheard.{Unheard}
+use Rattle.frame.specs.declared.scanner.Unheard.TheVariants.{Noise, Undecided}
+use Rattle.frame.specs.Checksum.{check_bytes}
 use Rattle.frame.specs.Meaning.{message_of, standing_of, passed}
-use Rattle.frame.specs.Frames.{preamble₁, preamble₂, max_payload, Message, size_of, body_of, frame_bytes, Standing, noise, undecided, intact, at_check_bytes, at_payload, at_header, at_second, standing, message_at, behind_header}
-use Rattle.frame.proofs.Checksum.{window_sums}
+use Rattle.frame.specs.Frames.{preamble₁, preamble₂, max_payload, Message, size_of, body_of, frame_bytes, Standing, noise, undecided, intact, at_check_bytes, at_payload, at_header, at_second, standing, behind_header}
 
 -- The three cases are apart
 
@@ -162,10 +162,10 @@ unfolding standing
 noise_some [] e = absurd (noise≢undecided (sym e))
 noise_some (x ∷ xs) e = omega arith
 
-pub passed_fits : (xs : List ℕ) (r : Start) → standing_of r ≡ standing xs → passed r ≤ length xs
-passed_fits xs Noise e = noise_some xs (sym e)
-passed_fits xs Undecided e = omega arith
-passed_fits xs (Intact f) e = intact_fits xs (message_of f) (sym e)
+pub passed_fits : (xs : List ℕ) (r : Result Frame Unheard) → standing_of r ≡ standing xs → passed r ≤ length xs
+passed_fits xs (Err Noise) e = noise_some xs (sym e)
+passed_fits xs (Err Undecided) e = omega arith
+passed_fits xs (Ok f) e = intact_fits xs (message_of f) (sym e)
 
 -- A place behind which 780 bytes stand is decided
 
@@ -355,21 +355,3 @@ both_right s m bs k lt p q = sym (both_there s m bs k lt ∙ cond-true _ _ _ (an
 pub check_missing : (s : CheckBytes) (m : Message) (bs : List ℕ) (k : ℕ) → length bs ≤ k → undecided ≡ at_check_bytes s m (drop k bs)
 unfolding at_check_bytes
 check_missing s m bs k le = sym (ap (at_check_bytes s m) (drop_all k bs le))
-
--- what stands at a place of some bytes, with the check bytes taken from the running sums; rest is what stands from there on
-module _ (bs : List ℕ) (place : ℕ) (rest : List ℕ) (is : rest ≡ drop place bs) (len : place + length rest ≡ length bs) (n : ℕ) (head : standing rest ≡ behind_header n rest) where
-  pub place_missing : length rest ≤ 6 + n → undecided ≡ standing (drop place bs)
-  place_missing le = check_missing (check_bytes (take (4 + n) (drop 2 rest))) (message_at n rest) rest (6 + n) le ∙ sym head ∙ ap standing is
-
-  pub place_closed : (running : List CheckBytes) (s : CheckBytes) (p : Standing) → running ≡ running_sums no_sums bs → 6 + n < length rest
-      → s ≡ sums_between (get_or running (place + 1) no_sums) (get_or running (place + 1 + (4 + n)) no_sums) (4 + n)
-      → p ≡ at_check_bytes s (message_at n rest) (drop (6 + n) rest) → p ≡ standing (drop place bs)
-  place_closed running s p all long e q =
-      let sums = ap (λ (v : List CheckBytes). sums_between (get_or v (place + 1) no_sums) (get_or v (place + 1 + (4 + n)) no_sums) (4 + n)) all in
-      let next : place + 1 + 1 ≡ place + 2 = omega arith in
-      let part : drop (place + 1 + 1) bs ≡ drop 2 rest = ap (λ k. drop k bs) next ∙ sym (drop-drop 2 place bs) ∙ ap (drop 2) (sym is) in
-      let same : s ≡ check_bytes (take (4 + n) (drop 2 rest)) = e ∙ sums ∙ window_sums bs (place + 1) (4 + n) (omega arith) ∙ ap (λ (xs : List ℕ). check_bytes (take (4 + n) xs)) part in
-      q ∙ ap (λ (t : CheckBytes). at_check_bytes t (message_at n rest) (drop (6 + n) rest)) same ∙ sym head ∙ ap standing is
-
-pub place_fits : (bs : List ℕ) (place : ℕ) (r : Start) → place ≤ length bs → standing_of r ≡ standing (drop place bs) → place + passed r ≤ length bs
-place_fits bs place r le e = let l = length-drop place bs in omega (arith, passed_fits (drop place bs) r e)

@@ -290,11 +290,12 @@ module _ (bs : List ℕ) (i : ℕ) (rest : List ℕ) (is : rest ≡ drop i bs) (
   find_undecided e =
       ap (counting None (drop i bs)) (sym (add-zero i)) ∙ ap (λ (xs : List ℕ). counting None xs (i + 0)) (sym is) ∙ found _ (finding_undecided rest (sym e))
 
-  pub find_intact : (m : Message) → intact m ≡ standing rest → record { skipped = i; message = Some m; rest = drop (i + size_of m) bs } ≡ finding bs
+  pub find_intact : (m : Message) (size : ℕ) (behind : List ℕ) → intact m ≡ standing rest → size ≡ size_of m → behind ≡ drop (i + size) bs
+      → record { skipped = i; message = Some m; rest = behind } ≡ finding bs
   unfolding counting
-  find_intact m e =
-      let all : drop (i + size_of m) bs ≡ drop (size_of m) rest = sym (ap (drop (size_of m)) is ∙ drop-drop (size_of m) i bs) in
-      ap (counting (Some m) (drop (i + size_of m) bs)) (sym (add-zero i)) ∙ ap (λ (xs : List ℕ). counting (Some m) xs (i + 0)) all ∙ found _ (finding_intact rest m (sym e))
+  find_intact m size behind e n b =
+      let all : behind ≡ drop (size_of m) rest = b ∙ ap (λ k. drop (i + k) bs) n ∙ sym (ap (drop (size_of m)) is ∙ drop-drop (size_of m) i bs) in
+      ap (counting (Some m) behind) (sym (add-zero i)) ∙ ap (λ (xs : List ℕ). counting (Some m) xs (i + 0)) all ∙ found _ (finding_intact rest m (sym e))
 
 pub find_none : (bs : List ℕ) → behind_all 0 (finding bs) ≡ finding bs
 unfolding counting

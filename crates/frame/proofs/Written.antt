@@ -1,6 +1,7 @@
 -- Laws of bytes that are written into a buffer.
-use Rattle.std.proofs.Common.{◌≡◌, ℕ, suc, ◌+◌, ◌/◌, ◌%◌, ◌<◌, ◌≤◌, List, [], ◌∷◌, ◌++◌, length, take, drop, set, sym, refl, ap, ◌∙◌, subst, append_assoc, add-zero, zero-add, arith}
+use Rattle.std.proofs.Common.{◌≡◌, ℕ, suc, ◌+◌, ◌/◌, ◌%◌, ◌<◌, ◌≤◌, List, [], ◌∷◌, ◌++◌, length, get_or, take, drop, set, sym, refl, ap, ◌∙◌, subst, append_assoc, add-zero, zero-add, arith}
 use Rattle.std.proofs.lemmas.List.{length-take-le, length-append, take-append-drop, take_at, take_more_set, drop_at, drop-drop, drop-set-lt}
+use Rattle.std.specs.Int.{w16, to_le_bytes}
 use borrow.Rule.Slice.PartMut.{put_mid}
 use Rattle.frame.specs.declared.sums.CheckBytes.{CheckBytes}
 use Rattle.frame.specs.Checksum.{check_bytes}
@@ -58,11 +59,19 @@ patched_part place k bs old part e same =
 -- Header, payload and check bytes, one behind the other, are the frame
 
 module _ (m : Message) (old first second : List ℕ) (room : size_of m ≤ length old)
-    (e : first ≡ patched 0 (preamble₁ ∷ preamble₂ ∷ m.class ∷ m.id ∷ length m.payload % 256 ∷ length m.payload / 256 ∷ []) old) (f : second ≡ patched 6 m.payload first) where
+    (size : List ℕ) (l : size ≡ to_le_bytes w16 (length m.payload)) (few : length m.payload ≤ max_payload)
+    (e : first ≡ patched 0 (preamble₁ ∷ preamble₂ ∷ m.class ∷ m.id ∷ get_or size 0 0 ∷ get_or size 1 0 ∷ []) old) (f : second ≡ patched 6 m.payload first) where
+  low : get_or size 0 0 ≡ length m.payload % 256
+  low = ap (λ (xs : List ℕ). get_or xs 0 0) l ∙ omega arith
+
+  high : get_or size 1 0 ≡ length m.payload / 256
+  high = ap (λ (xs : List ℕ). get_or xs 1 0) l ∙ omega arith
+
   second_is : second ≡ (preamble₁ ∷ preamble₂ ∷ body_of m) ++ drop (length (preamble₁ ∷ preamble₂ ∷ body_of m)) old
   second_is =
       let header : List ℕ = preamble₁ ∷ preamble₂ ∷ m.class ∷ m.id ∷ length m.payload % 256 ∷ length m.payload / 256 ∷ [] in
-      f ∙ ap (patched 6 m.payload) e ∙ patched_append 0 header m.payload old (omega arith) ∙ patched_front (preamble₁ ∷ preamble₂ ∷ body_of m) old
+      let whole : first ≡ patched 0 header old = rw (low, high) at e in
+      f ∙ ap (patched 6 m.payload) whole ∙ patched_append 0 header m.payload old (omega arith) ∙ patched_front (preamble₁ ∷ preamble₂ ∷ body_of m) old
 
   pub summed_part : (k : ℕ) → k ≡ 4 + length m.payload → take k (drop 2 second) ≡ body_of m
   summed_part k is =

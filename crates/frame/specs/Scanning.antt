@@ -111,12 +111,6 @@ pub record Promised (bs : List ℕ) (s : Scanned) : Type 0 where
   pub rest_ends : s.rest_place + length s.rest ≡ length bs
   pub rest_short : length s.rest < max_frame
 
--- this is what scanning finds, and it keeps what is promised
-pub record Passes (bs : List ℕ) (s : Scanned) (place : ℕ) : Type 0 where
-  pub within : place ≤ length bs
-  pub value : s ≡ scanned bs
-  pub keeps : Promised bs s
-
 -- The bytes are heard as one frame with this message, at place 0, with no noise and nothing left; and with more bytes behind them scanning
 -- goes on behind the frame.
 pub record HeardAs (m : Message) (bs : List ℕ) : Type 0 where

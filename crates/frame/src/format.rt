@@ -17,7 +17,7 @@ pub const MAX_PAYLOAD: usize = 772;
 pub const MAX_FRAME: usize = HEADER + MAX_PAYLOAD + TRAILER;
 
 // What an intact frame carries; the payload is a part of the bytes that it was heard in.
-#[derive(Clone, Copy)]
+#[derive(Clone, Copy, PartialEq, Eq, Debug)]
 pub struct Frame<'a> {
     pub class: u8,
     pub id: u8,

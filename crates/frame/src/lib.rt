@@ -16,6 +16,6 @@ mod sums;
 mod writer;
 
 pub use format::{Frame, HEADER, MAX_FRAME, MAX_PAYLOAD, PREAMBLE, TRAILER};
-pub use scanner::{Found, Heard, Listing, Start, find, scan, start_of};
+pub use scanner::{Found, Heard, Listing, Unheard, find, scan, start_of};
 pub use sums::{CheckBytes, check_bytes};
 pub use writer::{WriteFault, write_frame};

@@ -48,11 +48,9 @@ impl CheckBytes {
 pub fn check_bytes(bytes: &[u8]) -> CheckBytes
     ensures { result ≡ check_bytes bytes.now }
 {
-    let mut sums = CheckBytes::new();
-    for byte in bytes {
-        sums = sums.with(*byte);
-    }
-    sums
+    bytes
+        .iter()
+        .fold(CheckBytes::new(), |sums, byte| sums.with(*byte))
 }
 
 // The sums behind each of the bytes. With them the check bytes of any part cost two look-ups.

@@ -1,10 +1,11 @@
 // Writing a frame into a caller's buffer.
 ghost use Rattle.std.specs.Prelude.{◌≡◌, ◌+◌, ◌≤◌, length, take, is_ok, IfOk, if◌then◌else◌};
-ghost use Rattle.frame.specs.Frames.{max_payload, carrying, size_of, frame_bytes};
+ghost use Rattle.frame.specs.Frames.{max_payload, size_of, frame_bytes};
+ghost use Rattle.frame.specs.Meaning.{message_of};
 ghost use Rattle.frame.specs.Scanning.{HeardAs};
 ghost use Rattle.frame.specs.Written.{patched, in_front, written};
 
-use crate::format::{HEADER, MAX_PAYLOAD, PREAMBLE, TRAILER};
+use crate::format::{Frame, MAX_PAYLOAD, PREAMBLE};
 use crate::sums::check_bytes;
 use std::error::Error;
 use std::fmt;
@@ -40,33 +41,32 @@ fn put(out: &mut [u8], place: usize, bytes: &[u8]) -> usize
 }
 
 // Writes the frame into a buffer that is long enough.
-fn put_frame(out: &mut [u8], class: u8, id: u8, payload: &[u8]) -> usize
-    requires few { length payload.now ≤ max_payload }
-    requires room { size_of (carrying class id payload.now) ≤ length out.old }
-    ensures value { result ≡ size_of (carrying class id payload.now) }
-    ensures out { out.new ≡ in_front (frame_bytes (carrying class id payload.now)) out.old }
-    ensures heard { HeardAs (carrying class id payload.now) (take result out.new) }
+fn put_frame(out: &mut [u8], frame: &Frame<'_>) -> usize
+    requires few { length frame.now.payload.now ≤ max_payload }
+    requires room { size_of (message_of frame.now) ≤ length out.old }
+    ensures value { result ≡ size_of (message_of frame.now) }
+    ensures out { out.new ≡ in_front (frame_bytes (message_of frame.now)) out.old }
+    ensures heard { HeardAs (message_of frame.now) (take result out.new) }
 {
-    let low = (payload.len() % 256) as u8;
-    let high = (payload.len() / 256) as u8;
+    let Frame { class, id, payload } = *frame;
+    let [low, high] = (payload.len() as u16).to_le_bytes();
     let header = put(out, 0, &[PREAMBLE[0], PREAMBLE[1], class, id, low, high]);
     let end = put(out, header, payload);
     let sums = check_bytes(&out[2..end]);
     put(out, end, &[sums.a, sums.b])
 }
 
-// Writes the frame with this class, ID and payload at the start of the buffer; answers how many bytes it has.
-// A refusal leaves the buffer as it was.
-pub fn write_frame(out: &mut [u8], class: u8, id: u8, payload: &[u8]) -> Result<usize, WriteFault>
-    ensures value { result ≡ written (carrying class id payload.now) (length out.old) }
-    ensures out { out.new ≡ (if is_ok result then in_front (frame_bytes (carrying class id payload.now)) out.old else out.old) }
-    ensures heard { IfOk result (λ n. HeardAs (carrying class id payload.now) (take n out.new)) }
+// Writes the frame at the start of the buffer; answers how many bytes it has. A refusal leaves the buffer as it was.
+pub fn write_frame(out: &mut [u8], frame: &Frame<'_>) -> Result<usize, WriteFault>
+    ensures value { result ≡ written (message_of frame.now) (length out.old) }
+    ensures out { out.new ≡ (if is_ok result then in_front (frame_bytes (message_of frame.now)) out.old else out.old) }
+    ensures heard { IfOk result (λ n. HeardAs (message_of frame.now) (take n out.new)) }
 {
-    if payload.len() > MAX_PAYLOAD {
+    if frame.payload.len() > MAX_PAYLOAD {
         return Err(WriteFault::PayloadTooLong);
     }
-    if out.len() < HEADER + payload.len() + TRAILER {
+    if out.len() < frame.size() {
         return Err(WriteFault::BufferTooShort);
     }
-    Ok(put_frame(out, class, id, payload))
+    Ok(put_frame(out, frame))
 }

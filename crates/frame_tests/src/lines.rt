@@ -1,6 +1,6 @@
 // Whole lines: what is heard in them, at once and in pieces.
-use frame::{check_bytes, scan, write_frame};
-use monitor::Monitor;
+use frame::{Frame, Heard, check_bytes, scan, write_frame};
+use monitor::{Counts, Monitor};
 use std::alloc::Global;
 use std::test::Fail;
 
@@ -11,7 +11,12 @@ fn a_hidden_frame_is_heard_with_770_bytes_behind_it(rt: HostRuntime) -> Result<(
     let mut line = [0u8; 780];
     line[0] = 0xb5;
     line[1] = 0x62;
-    write_frame(&mut line[2..780], 0x04, 0x03, &[])?;
+    let hidden = Frame {
+        class: 0x04,
+        id: 0x03,
+        payload: &[],
+    };
+    write_frame(&mut line[2..780], &hidden)?;
     let sums = check_bytes(&line[2..778]);
     line[778] = sums.a;
     line[779] = sums.b ^ 1;
@@ -20,9 +25,11 @@ fn a_hidden_frame_is_heard_with_770_bytes_behind_it(rt: HostRuntime) -> Result<(
     assert_eq!(rt; before.noise, 0);
     assert_eq!(rt; before.rest.len(), 779);
     let after = scan(rt.alloc(), &line)?;
-    assert!(rt; after.frames.len() == 1);
-    assert_eq!(rt; after.frames[0].place, 2);
-    assert_eq!(rt; after.frames[0].frame.payload.len(), 0);
+    let heard = Heard {
+        place: 2,
+        frame: hidden,
+    };
+    assert_eq!(rt; after.frames.as_slice(), [heard].as_slice());
     assert_eq!(rt; after.noise, 772);
     Ok(())
 }
@@ -50,10 +57,12 @@ fn pieces_of_every_size_give_the_same_listing(rt: HostRuntime) -> Result<(), Fai
     for size in 1..41 {
         let mut monitor = Monitor::new(rt.alloc());
         assert_eq!(rt; places(rt.alloc(), &mut monitor, size)?, 22);
-        let counts = monitor.counts();
-        assert_eq!(rt; counts.frames, 2);
-        assert_eq!(rt; counts.noise, 4);
-        assert_eq!(rt; counts.held, 9);
+        let counts = Counts {
+            frames: 2,
+            noise: 4,
+            held: 9,
+        };
+        assert_eq!(rt; monitor.counts(), counts);
     }
     Ok(())
 }

@@ -2,6 +2,7 @@
 use Rattle.std.proofs.Common.{◌≡◌, ℕ, ◌+◌, ◌^◌, ◌<◌, ◌≤◌, List, [], ◌∷◌, ◌++◌, map, length, vec_items, sym, refl, ap, ◌∙◌, add-zero, arith}
 use Rattle.std.specs.List.{AllByRecursion}
 use Rattle.std.proofs.lemmas.List.{length-map, length-append, map-append}
+use Rattle.std.proofs.lemmas.List.Elements.{All-from_recursion}
 use Rattle.frame.specs.Frames.{size_of}
 use Rattle.frame.specs.Meaning.{hearing_of, scanned_of}
 use Rattle.frame.specs.Scanning.{Hearing, moved_hearing, moved, Scanned, scan_from, scanned, both, sizes, Promised}
@@ -13,9 +14,12 @@ use Rattle.monitor.specs.declared.state.calls.Brought.{Brought}
 use Rattle.monitor.specs.Following.{Progress, reached, scanned_on, progress_on, hearing_row, row_at, rows_of, Placed, Brings, passed}
 
 -- places within the bytes stay below the line's end
+each_fits : (p n : ℕ) (hs : List Heard) → AllByRecursion (λ h. h.place + size_of h.message ≤ n) (map hearing_of hs) → p + n < 2 ^ 64 → AllByRecursion (λ h. p + h.place < 2 ^ 64) hs
+each_fits p n [] w e = tt
+each_fits p n (h ∷ hs) w e = (omega (arith, w.0), each_fits p n hs w.1 e)
+
 pub places_fit : (p n : ℕ) (hs : List Heard) → AllByRecursion (λ h. h.place + size_of h.message ≤ n) (map hearing_of hs) → p + n < 2 ^ 64 → Placed p hs
-places_fit p n [] w e = tt
-places_fit p n (h ∷ hs) w e = (omega (arith, w.0), places_fit p n hs w.1 e)
+places_fit p n hs w e = All-from_recursion (λ h. p + h.place < 2 ^ 64) hs (each_fits p n hs w e)
 
 rows_are : (p : ℕ) (hs : List Heard) → map (row_at p) hs ≡ map hearing_row (map (moved_hearing p) (map hearing_of hs))
 rows_are p [] = refl

@@ -1,7 +1,7 @@
 -- Following a line: what is known of it after the bytes so far, and what one more piece adds.
 use Rattle.std.specs.Prelude.{◌≡◌, ℕ, ◌+◌, ◌^◌, ◌<◌, ◌≤◌, List, ◌++◌, map, length, IfOk, Ok, Err, vec_items, vec_len, Result, Vec}
 use Rattle.std.specs.declared.alloc.Global.{Global}
-use Rattle.std.specs.List.{AllByRecursion}
+use Rattle.std.specs.List.{All}
 use Rattle.frame.specs.Scanning.{Hearing, moved_hearing, Scanned, scan_from, scanned}
 use Rattle.frame.specs.declared.scanner.Heard.{Heard}
 use Rattle.frame.specs.Meaning.{hearing_of}
@@ -45,7 +45,7 @@ row_at p h = hearing_row (moved_hearing p (hearing_of h))
 
 -- their places on the line can be told
 abbrev pub Placed : ℕ → List Heard → Type 0
-Placed p hs = AllByRecursion (λ h. p + h.place < 2 ^ 64) hs
+Placed p hs = All (λ h. p + h.place < 2 ^ 64) hs
 
 abbrev pub rows_of : Scanned → List Row
 rows_of s = map hearing_row s.heard

@@ -2,7 +2,7 @@
 use std::fmt;
 
 // A heard frame by its place on the line, its class and ID, and the length of its payload.
-#[derive(Clone, Copy)]
+#[derive(Clone, Copy, PartialEq, Eq, Debug)]
 pub struct Row {
     pub place: u64,
     pub class: u8,
@@ -23,7 +23,7 @@ impl fmt::Display for Row {
 }
 
 // How many frames were heard, how many bytes were noise, and how many at the end are still undecided.
-#[derive(Clone, Copy)]
+#[derive(Clone, Copy, PartialEq, Eq, Debug)]
 pub struct Counts {
     pub frames: u64,
     pub noise: u64,

@@ -1,6 +1,7 @@
 // Feeding a monitor, and asking for its counts.
 ghost use Rattle.std.specs.Prelude.{◌≡◌, ◌+◌, ◌^◌, ◌<◌, ◌≤◌, [], ◌++◌, map, length, IfOk, vec_len};
-ghost use Rattle.monitor.specs.Following.{progress_of, counts_of, reached, row_at, Placed, Brings, passed, Fed, Follows};
+ghost use Rattle.monitor.specs.Following.{progress_of, counts_of, reached, row_at, Placed, line_length, Brings, passed, Fed, Follows};
+ghost use Rattle.monitor.specs.declared.state.calls.FeedFault.TheVariants.{NoMemory};
 
 use super::Monitor;
 use crate::row::{Counts, Row};
@@ -10,7 +11,7 @@ use std::error::Error;
 use std::fmt;
 
 // Why a piece was not taken.
-#[derive(Clone, Copy, Debug)]
+#[derive(Clone, Copy, PartialEq, Eq, Debug)]
 pub enum FeedFault {
     // the line would have 2^64 bytes or more, so that places could no longer be told
     LineTooLong,
@@ -27,6 +28,14 @@ impl fmt::Display for FeedFault {
 }
 
 impl Error for FeedFault {}
+
+impl From<AllocError> for FeedFault {
+    ghost from_gives = { λ _ fault. fault ≡ NoMemory };
+
+    fn from(_error: AllocError) -> FeedFault {
+        FeedFault::NoMemory
+    }
+}
 
 // The row of a frame that was heard behind `place`.
 fn row_of(place: u64, heard: &Heard<'_>) -> Row
@@ -45,11 +54,10 @@ fn rows(heap: Global, place: u64, frames: &[Heard<'_>]) -> Result<Vec<Row>, Allo
     requires { Placed place frames.now }
     ensures { IfOk result (λ v. v.items ≡ map (row_at place) frames.now) }
 {
-    let mut rows = Vec::new(heap);
-    for heard in frames {
-        rows.push(row_of(place, heard))?;
-    }
-    Ok(rows)
+    frames
+        .iter()
+        .map(|heard| row_of(place, heard))
+        .collect(heap)
 }
 
 // What one more piece brings: the rows of the frames that it completes, how many bytes are decided, how many of them are noise, and the bytes
@@ -60,24 +68,6 @@ struct Brought {
     decided: u64,
     noise: u64,
     rest: Vec<u8>,
-}
-
-// Goes on with the undecided bytes, which begin at this place of the line, and a piece behind them.
-fn bring(heap: Global, place: u64, held: &[u8], piece: &[u8]) -> Result<Brought, AllocError>
-    requires { place + length held.now + length piece.now < 2 ^ 64 }
-    ensures { IfOk result (λ b. Brings place (held.now ++ piece.now) b) }
-{
-    let mut bytes = Vec::from_slice(heap, held)?;
-    bytes.extend_from_slice(piece)?;
-    let listing = scan(heap, &bytes)?;
-    let rows = rows(heap, place, &listing.frames)?;
-    let rest = Vec::from_slice(heap, listing.rest)?;
-    Ok(Brought {
-        rows,
-        decided: listing.rest_place as u64,
-        noise: listing.noise as u64,
-        rest,
-    })
 }
 
 impl Monitor {
@@ -98,15 +88,30 @@ impl Monitor {
         ensures value { Fed (progress_of self.old) piece.now (progress_of self.new) result }
         ensures line { Follows (progress_of self.old) piece.now (progress_of self.new) result }
     {
-        let held = self.held.len() as u64;
-        let left = u64::MAX - self.place;
-        if left < held || left - held < piece.len() as u64 {
-            return Err(FeedFault::LineTooLong);
-        }
-        match bring(heap, self.place, self.held.as_slice(), piece) {
-            Ok(brought) => Ok(self.pass(brought)),
-            Err(_) => Err(FeedFault::NoMemory),
-        }
+        self.place
+            .checked_add(self.held.len() as u64)
+            .and_then(|end| end.checked_add(piece.len() as u64))
+            .ok_or(FeedFault::LineTooLong)?;
+        let brought = self.bring(heap, piece)?;
+        Ok(self.pass(brought))
+    }
+
+    // What one more piece brings, with the undecided bytes before it.
+    fn bring(&self, heap: Global, piece: &[u8]) -> Result<Brought, AllocError>
+        requires { line_length (progress_of self.now) piece.now < 2 ^ 64 }
+        ensures { IfOk result (λ b. Brings self.now.place (self.now.held.items ++ piece.now) b) }
+    {
+        let mut bytes = Vec::from_slice(heap, &self.held)?;
+        bytes.extend_from_slice(piece)?;
+        let listing = scan(heap, &bytes)?;
+        let rows = rows(heap, self.place, &listing.frames)?;
+        let rest = Vec::from_slice(heap, listing.rest)?;
+        Ok(Brought {
+            rows,
+            decided: listing.rest_place as u64,
+            noise: listing.noise as u64,
+            rest,
+        })
     }
 
     // The counts so far.

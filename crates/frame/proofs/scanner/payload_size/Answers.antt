@@ -1,6 +1,6 @@
 use Rattle.std.proofs.Common.{rules}
 use Rattle.frame.proofs.Frames.{standing_none, standing_other, standing_one, standing_other_second, standing_short, standing_long, standing_payload}
-use Rattle.frame.proofs.scanner.header_of.Goals as goal
+use Rattle.frame.proofs.scanner.payload_size.Goals as goal
 
 pub returns-then-is_empty : goal.returns-then-is_empty
 returns-then-is_empty c = search (rules, standing_none)

@@ -2,7 +2,7 @@ use Rattle.std.proofs.Common.{◌≡◌, ◌-◌, ◌≤◌, map, length, drop, 
 use Rattle.frame.specs.Scanning.{both, scan_from, scanned}
 use Rattle.frame.specs.Meaning.{hearing_of}
 use Rattle.frame.proofs.Scanning.{so_far}
-use Rattle.frame.proofs.scanner.pass.Given as goal
+use Rattle.frame.proofs.scanner.scan.Given as goal
 
 abbrev pub invariant-places : goal.invariant-places
 invariant-places l =
