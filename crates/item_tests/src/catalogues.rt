@@ -1,5 +1,5 @@
 // Catalogues: the bench catalogue, what is wrong with others, and which items are named.
-use catalogue::{Entry, bench_catalogue, check_catalogue, find_item, next_named};
+use catalogue::{Entry, Kind, bench_catalogue, check_catalogue, find_item, next_named};
 
 // The number and entry of the check's refusal; 0 0 where the catalogue is accepted.
 fn refusal(entries: &[Entry]) -> (u8, usize) {
@@ -31,13 +31,13 @@ fn each_fault_is_told_with_its_entry(rt: HostRuntime) {
     entries[2].default = 7;
     assert_eq!(rt; refusal(&entries), (4, 2));
     entries = bench_catalogue();
-    entries[5].kind = 3;
+    entries[5].kind = Kind::from(3);
     assert_eq!(rt; refusal(&entries), (4, 5));
     entries = bench_catalogue();
     entries[1].high = 2;
     assert_eq!(rt; refusal(&entries), (4, 1));
     entries = bench_catalogue();
-    entries[0].kind = 1;
+    entries[0].kind = Kind::Signed;
     assert_eq!(rt; refusal(&entries), (4, 0));
 }
 
@@ -46,7 +46,7 @@ fn two_s_complement_bounds(rt: HostRuntime) {
     // -2 to 3 in one byte
     let entry = Entry {
         key: 0x2001_0001,
-        kind: 1,
+        kind: Kind::Signed,
         default: 0xff,
         low: 0xfe,
         high: 3,
