@@ -1,5 +1,6 @@
 -- Laws of settings.
-use Rattle.std.specs.Prelude.{◌≡◌, ℕ, ◌+◌, ◌<◌, ◌≤◌, true, cond, ◌⊎◌, List, [], ◌∷◌, length, Some, None, Option, ◌≢◌, nat_lt, refl}
+use Rattle.std.specs.Prelude.{◌≡◌, ℕ, ◌+◌, ◌<◌, ◌≤◌, true, cond, ◌⊎◌, List, [], ◌∷◌, length, Some, None, Option, ◌≢◌, nat_lt, refl, MatchOption}
+use Rattle.std.specs.Option.{option_or}
 use Rattle.std.proofs.Common.{sym, ap, ◌∙◌, inr, ⊎_elim, arith}
 use Rattle.std.proofs.lemmas.Bool.Decides.{nat_tests}
 use Rattle.std.proofs.lemmas.Bool.{cases_order}
@@ -82,6 +83,19 @@ value_from_upper k v xs ys e = sym (value_merged_some k v xs ys (sym e))
 pub value_merged_none : (k : ℕ) (xs ys : List Setting) → value_under k xs ≡ None → value_under k (merged xs ys) ≡ value_under k ys
 value_merged_none k [] ys e = refl
 value_merged_none k (x ∷ xs) ys e = grind (arith, nat_tests, value_merged_none k xs ys, value_with_other x.key x.value k (merged xs ys))
+
+-- the same of each key at once, and where a choice between the two was made
+pub value_merged : (k : ℕ) (xs ys : List Setting) → value_under k (merged xs ys) ≡ option_or (value_under k xs) (value_under k ys)
+value_merged k xs ys = go (value_under k xs) refl
+  where
+    go : (o : Option ℕ) → value_under k xs ≡ o → value_under k (merged xs ys) ≡ option_or o (value_under k ys)
+    go None is = value_merged_none k xs ys is
+    go (Some v) is = value_merged_some k v xs ys is
+
+pub value_chosen : {P : Type 0} (k : ℕ) (xs ys : List Setting) (o r : Option ℕ) → (P → r ≡ value_under k ys) → o ≡ value_under k xs → MatchOption o P (λ x. r ≡ Some x)
+    → r ≡ value_under k (merged xs ys)
+value_chosen k xs ys None r lower is m = lower m ∙ ap (λ o. option_or o (value_under k ys)) is ∙ sym (value_merged k xs ys)
+value_chosen k xs ys (Some v) r lower is m = m ∙ ap (λ o. option_or o (value_under k ys)) is ∙ sym (value_merged k xs ys)
 
 pub ascends_merged : (xs ys : List Setting) → Ascends ys → Ascends (merged xs ys)
 ascends_merged [] ys a = a

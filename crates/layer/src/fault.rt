@@ -8,12 +8,12 @@ use std::fmt;
 #[derive(Clone, Copy, PartialEq, Eq, Debug)]
 pub enum StoreFault {
     // the store cannot be written at all
-    Unusable,
-    IllFormedKey,
+    Unusable = 27,
+    IllFormedKey = 28,
     // the value does not fit the key's size
-    Unfit,
+    Unfit = 29,
     // the key is new, and 128 settings are held
-    Full,
+    Full = 30,
 }
 
 impl StoreFault {
@@ -21,12 +21,7 @@ impl StoreFault {
     pub fn number(self) -> u8
         ensures { result ≡ refusal_number self }
     {
-        match self {
-            StoreFault::Unusable => 27,
-            StoreFault::IllFormedKey => 28,
-            StoreFault::Unfit => 29,
-            StoreFault::Full => 30,
-        }
+        self as u8
     }
 }
 

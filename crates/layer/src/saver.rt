@@ -44,10 +44,8 @@ impl<S: Store> Store for Saver<S> {
         ensures mark { S.Store.usable self.new.store ≡ S.Store.usable self.old.store }
         ensures spared { value_under key (S.Layer.settings self.old.store) ≡ Some value → self.new.store ≡ self.old.store }
     {
-        if let Some(held) = self.store.value(key) {
-            if held == value {
-                return Ok(());
-            }
+        if self.store.value(key) == Some(value) {
+            return Ok(());
         }
         self.store.put(key, value)
     }

@@ -1,6 +1,6 @@
 // A setting: a value under a key.
 
-#[derive(Clone, Copy)]
+#[derive(Clone, Copy, PartialEq, Eq, Debug)]
 pub struct Setting {
     pub key: u32,
     pub value: u64,

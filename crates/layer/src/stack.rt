@@ -17,12 +17,9 @@ pub struct Stack<U, L> {
 fn lesser_of(a: Option<u32>, b: Option<u32>) -> Option<u32>
     ensures { result ≡ lesser a b }
 {
-    match a {
-        Some(k) => match b {
-            Some(m) => Some(if m < k { m } else { k }),
-            None => a,
-        },
-        None => b,
+    match (a, b) {
+        (Some(k), Some(m)) => Some(k.min(m)),
+        _ => a.or(b),
     }
 }
 
@@ -34,10 +31,7 @@ impl<U: Layer, L: Layer> Layer for Stack<U, L> {
     ghost sound = { λ s k v e. ⊎_elim (U.Layer.sound s.upper k v) (L.Layer.sound s.lower k v) (value_merged_cases k v (U.Layer.settings s.upper) (L.Layer.settings s.lower) e) };
 
     fn value(&self, key: u32) -> Option<u64> {
-        match self.upper.value(key) {
-            Some(v) => Some(v),
-            None => self.lower.value(key),
-        }
+        self.upper.value(key).or_else(|| self.lower.value(key))
     }
 
     fn next_key(&self, number: u32) -> Option<u32> {

@@ -1,10 +1,11 @@
 -- The defaults of a catalogue: a lawful layer, and what it answers.
-use Rattle.std.specs.Prelude.{◌≡◌, ℕ, zero, suc, ◌+◌, ◌<◌, ◌≤◌, Bool, true, false, cond, List, [], ◌∷◌, length, drop, is_ok, Some, None, Ok, Err, Result, ◌==◌, ◌≢◌, nat_lt, slice_index_or, refl}
-use Rattle.std.proofs.Common.{sym, ap, subst, ◌∙◌, arith}
-use Rattle.std.proofs.lemmas.List.{at_drop_more, at_drop_all}
-use Rattle.std.proofs.lemmas.Bool.{and_parts, eq-eqb, ne_eqb, lt-ltb, le-ltb, cond-true, cond-false, eqb-true}
+use Rattle.std.specs.Prelude.{◌≡◌, ℕ, Bool, true, false, cond, List, [], ◌∷◌, is_ok, Some, Ok, Err, Result, ◌==◌, nat_lt, find, refl}
+use Rattle.std.specs.Option.{option_map}
+use Rattle.std.proofs.lemmas.Bool.Decides.{nat_tests}
+use Rattle.std.proofs.Common.{subst, arith}
+use Rattle.std.proofs.lemmas.Bool.{and_parts, eqb-true}
 use Rattle.item.specs.Keys.{well_formed, fits_key}
-use Rattle.catalogue.specs.Catalogues.{kind_suits, read_fits, allows, is_sound, entries_checked, blank, Listed}
+use Rattle.catalogue.specs.Catalogues.{kind_suits, read_fits, allows, is_sound, entries_checked, Listed}
 use Rattle.catalogue.specs.declared.entries.Entry.{Entry}
 use Rattle.catalogue.specs.declared.entries.CatalogueFault.{CatalogueFault}
 use Rattle.catalogue.proofs.Catalogues.{listed_from}
@@ -17,9 +18,6 @@ use Rattle.layer.proofs.Stores.{setting_from}
 ok_is : (r : Result (Unit {0}) CatalogueFault) → is_ok r ≡ true → r ≡ Ok tt
 ok_is (Ok tt) e = refl
 ok_is (Err f) e = let z : ◌≡◌ {A = ℕ} 0 1 = cc in absurd (omega arith)
-
-pub checked_same : (xs ys : List Entry) → xs ≡ ys → is_ok (entries_checked 0 0 ys) ≡ true → is_ok (entries_checked 0 0 xs) ≡ true
-checked_same xs ys e h = ap (λ (l : List Entry). is_ok (entries_checked 0 0 l)) e ∙ h
 
 -- The laws
 
@@ -56,30 +54,12 @@ defaults_ascend es e = above_ascends 0 (defaults_of es) (listed_above 0 es (list
 pub defaults_sound : (es : List Entry) → is_ok (entries_checked 0 0 es) ≡ true → Sound (defaults_of es)
 defaults_sound es e = listed_sound 0 es (listed_from 0 0 es (ok_is (entries_checked 0 0 es) e))
 
--- The value under a key, by the finder
+-- What the first entry that passes a test gives
 
-pub default_at : (k i : ℕ) (es : List Entry) → i < length es → (slice_index_or es i blank).key ≡ k → ((j : ℕ) → j < i → (slice_index_or es j blank).key ≢ k)
-    → Some (slice_index_or es i blank).default ≡ value_under k (defaults_of es)
-default_at k i [] lt e before = absurd (omega arith)
-default_at k zero (x ∷ xs) lt e before = sym (cond-true _ _ _ (eq-eqb x.key k e))
-default_at k (suc i) (x ∷ xs) lt e before =
-    default_at k i xs (omega arith) e (λ j h. before (suc j) (omega arith)) ∙ sym (cond-false _ _ _ (ne_eqb x.key k (before 0 (omega arith))))
+pub value_found : (k : ℕ) (es : List Entry) → option_map (λ e. e.default) (find (λ e. e.key == k) es) ≡ value_under k (defaults_of es)
+value_found k [] = refl
+value_found k (e ∷ es) = grind (arith, nat_tests, value_found k es)
 
-pub default_none : (k : ℕ) (es : List Entry) → ((j : ℕ) → j < length es → (slice_index_or es j blank).key ≢ k) → None ≡ value_under k (defaults_of es)
-default_none k [] all = refl
-default_none k (x ∷ xs) all = default_none k xs (λ j h. all (suc j) (omega arith)) ∙ sym (cond-false _ _ _ (ne_eqb x.key k (all 0 (omega arith))))
-
--- The walk to the first key above a number
-
-module _ (n i : ℕ) (es : List Entry) (inv : key_above n (defaults_of (drop i es)) ≡ key_above n (defaults_of es)) where
-  above_on : i < length es → cond (nat_lt n (slice_index_or es i blank).key) (Some (slice_index_or es i blank).key) (key_above n (defaults_of (drop (i + 1) es))) ≡ key_above n (defaults_of es)
-  above_on lt = sym (at_drop_more (λ (l : List Entry). key_above n (defaults_of l)) es i blank lt) ∙ inv
-
-  pub above_here : i < length es → n < (slice_index_or es i blank).key → Some (slice_index_or es i blank).key ≡ key_above n (defaults_of es)
-  above_here lt h = sym (cond-true _ _ _ (lt-ltb n (slice_index_or es i blank).key h)) ∙ above_on lt
-
-  pub above_past : i < length es → (slice_index_or es i blank).key ≤ n → key_above n (defaults_of (drop (i + 1) es)) ≡ key_above n (defaults_of es)
-  above_past lt h = sym (cond-false _ _ _ (le-ltb n (slice_index_or es i blank).key h)) ∙ above_on lt
-
-  pub above_end : length es ≤ i → None ≡ key_above n (defaults_of es)
-  above_end le = sym (at_drop_all (λ (l : List Entry). key_above n (defaults_of l)) es i le) ∙ inv
+pub key_found : (n : ℕ) (es : List Entry) → option_map (λ e. e.key) (find (λ e. nat_lt n e.key) es) ≡ key_above n (defaults_of es)
+key_found n [] = refl
+key_found n (e ∷ es) = grind (arith, nat_tests, key_found n es)

@@ -1,5 +1,4 @@
 // A store that is chosen at run time, for programs: a slot table or an absent place, bare or under a saver.
-// A write takes the store out, writes it and puts it back: a variant that holds a store with an invariant cannot be lent for change in its place.
 ghost use Rattle.std.specs.Prelude.{◌≡◌, Some};
 ghost use Rattle.layer.specs.Settings.{value_under};
 ghost use Rattle.layer.specs.Stores.{put_answer, remove_answer, clear_answer, after_put, after_remove, after_clear};
@@ -11,7 +10,6 @@ ghost use Rattle.layer.proofs.Stores.{nothing_shows};
 
 use crate::table::SlotTable;
 use layer::{Absent, Layer, Saver, Store, StoreFault};
-use std::mem;
 
 #[derive(Drop)]
 pub enum AnyStore {
@@ -19,6 +17,18 @@ pub enum AnyStore {
     Nowhere(Absent),
     SavedSlots(Saver<SlotTable>),
     SavedNowhere(Saver<Absent>),
+}
+
+// One call at whichever of the four it is.
+macro_rules! at_each {
+    ($any:expr, $store:ident => $call:expr) => {
+        match $any {
+            AnyStore::Slots($store) => $call,
+            AnyStore::Nowhere($store) => $call,
+            AnyStore::SavedSlots($store) => $call,
+            AnyStore::SavedNowhere($store) => $call,
+        }
+    };
 }
 
 impl Layer for AnyStore {
@@ -39,21 +49,11 @@ impl Layer for AnyStore {
     ] };
 
     fn value(&self, key: u32) -> Option<u64> {
-        match self {
-            AnyStore::Slots(store) => store.value(key),
-            AnyStore::Nowhere(store) => store.value(key),
-            AnyStore::SavedSlots(store) => store.value(key),
-            AnyStore::SavedNowhere(store) => store.value(key),
-        }
+        at_each!(self, store => store.value(key))
     }
 
     fn next_key(&self, number: u32) -> Option<u32> {
-        match self {
-            AnyStore::Slots(store) => store.next_key(number),
-            AnyStore::Nowhere(store) => store.next_key(number),
-            AnyStore::SavedSlots(store) => store.next_key(number),
-            AnyStore::SavedNowhere(store) => store.next_key(number),
-        }
+        at_each!(self, store => store.next_key(number))
     }
 }
 
@@ -68,12 +68,7 @@ impl Store for AnyStore {
     ] };
 
     fn is_usable(&self) -> bool {
-        match self {
-            AnyStore::Slots(store) => store.is_usable(),
-            AnyStore::Nowhere(store) => store.is_usable(),
-            AnyStore::SavedSlots(store) => store.is_usable(),
-            AnyStore::SavedNowhere(store) => store.is_usable(),
-        }
+        at_each!(self, store => store.is_usable())
     }
 
     fn put(&mut self, key: u32, value: u64) -> Result<(), StoreFault>
@@ -83,28 +78,7 @@ impl Store for AnyStore {
         ensures kind { any_kind self.new ≡ any_kind self.old }
         ensures spared { any_kind self.old ≡ 2 → value_under key (any_settings self.old) ≡ Some value → self.new ≡ self.old }
     {
-        match mem::replace(self, AnyStore::Nowhere(Absent)) {
-            AnyStore::Slots(mut store) => {
-                let answer = store.put(key, value);
-                *self = AnyStore::Slots(store);
-                answer
-            }
-            AnyStore::Nowhere(mut store) => {
-                let answer = store.put(key, value);
-                *self = AnyStore::Nowhere(store);
-                answer
-            }
-            AnyStore::SavedSlots(mut store) => {
-                let answer = store.put(key, value);
-                *self = AnyStore::SavedSlots(store);
-                answer
-            }
-            AnyStore::SavedNowhere(mut store) => {
-                let answer = store.put(key, value);
-                *self = AnyStore::SavedNowhere(store);
-                answer
-            }
-        }
+        at_each!(self, store => store.put(key, value))
     }
 
     fn remove(&mut self, key: u32) -> Result<(), StoreFault>
@@ -113,28 +87,7 @@ impl Store for AnyStore {
         ensures mark { any_usable self.new ≡ any_usable self.old }
         ensures kind { any_kind self.new ≡ any_kind self.old }
     {
-        match mem::replace(self, AnyStore::Nowhere(Absent)) {
-            AnyStore::Slots(mut store) => {
-                let answer = store.remove(key);
-                *self = AnyStore::Slots(store);
-                answer
-            }
-            AnyStore::Nowhere(mut store) => {
-                let answer = store.remove(key);
-                *self = AnyStore::Nowhere(store);
-                answer
-            }
-            AnyStore::SavedSlots(mut store) => {
-                let answer = store.remove(key);
-                *self = AnyStore::SavedSlots(store);
-                answer
-            }
-            AnyStore::SavedNowhere(mut store) => {
-                let answer = store.remove(key);
-                *self = AnyStore::SavedNowhere(store);
-                answer
-            }
-        }
+        at_each!(self, store => store.remove(key))
     }
 
     fn clear(&mut self) -> Result<(), StoreFault>
@@ -143,27 +96,6 @@ impl Store for AnyStore {
         ensures mark { any_usable self.new ≡ any_usable self.old }
         ensures kind { any_kind self.new ≡ any_kind self.old }
     {
-        match mem::replace(self, AnyStore::Nowhere(Absent)) {
-            AnyStore::Slots(mut store) => {
-                let answer = store.clear();
-                *self = AnyStore::Slots(store);
-                answer
-            }
-            AnyStore::Nowhere(mut store) => {
-                let answer = store.clear();
-                *self = AnyStore::Nowhere(store);
-                answer
-            }
-            AnyStore::SavedSlots(mut store) => {
-                let answer = store.clear();
-                *self = AnyStore::SavedSlots(store);
-                answer
-            }
-            AnyStore::SavedNowhere(mut store) => {
-                let answer = store.clear();
-                *self = AnyStore::SavedNowhere(store);
-                answer
-            }
-        }
+        at_each!(self, store => store.clear())
     }
 }

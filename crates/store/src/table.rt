@@ -1,14 +1,15 @@
-// A table of 128 slots. Putting and removing change one slot in its place.
+// A table of 128 slots, each free or used for a setting. Putting and removing change one slot in its place.
 ghost use Rattle.std.specs.Prelude.{◌≡◌, true, length};
 ghost use Rattle.store.specs.Slots.{apart, sound};
 
-use crate::slot::Slot;
+use layer::Setting;
 
 pub mod calls;
 
 #[derive(Drop)]
 pub struct SlotTable {
-    slots: [Slot; 128],
+    // kept: fixed memory, since a receiver has no heap once it is made
+    slots: [Option<Setting>; 128],
     ghost whole: { length slots ≡ 128 },
     // no two used slots have one key
     ghost distinct: { apart slots ≡ true },

@@ -1,9 +1,9 @@
 use Rattle.std.proofs.Common.{rules}
-use Rattle.layer.specs.SettingsLemmas.{value_from_upper, value_merged_none}
+use Rattle.layer.specs.SettingsLemmas.{value_chosen}
 use Rattle.layer.proofs.stack.StackLayer.value.Goals as goal
 
-pub returns-in-Some : goal.returns-in-Some
-returns-in-Some g c = let told = c.in-Some.ensures in search (rules, value_from_upper)
-
-pub returns-in-None : goal.returns-in-None
-returns-in-None g c = search (rules, value_merged_none)
+pub returns : goal.returns
+returns g c =
+    let stack = c.args.self.now in
+    value_chosen c.args.key (g.U.Layer.settings stack.upper) (g.L.Layer.settings stack.lower) c.value.result c.or_else.result
+        (λ asked. search rules) c.value.ensures c.or_else.ensures

@@ -1,10 +1,9 @@
-use Rattle.std.proofs.Common.{arith, rules}
-use Rattle.std.proofs.lemmas.List.{take_all}
-use Rattle.store.specs.SlotsLemmas.{used_more}
+use Rattle.std.proofs.Common.{rules, is_none}
+use Rattle.store.specs.Slots.{FirstSlot}
+use Rattle.store.specs.SlotsLemmas.{free_told}
 use Rattle.store.proofs.table.SlotTable.free_place.Goals as goal
 
-pub loop-i-preserved : goal.loop-i-preserved
-loop-i-preserved c = search (rules, used_more)
-
 pub returns : goal.returns
-returns c = let e = take_all c.loop-i.i c.args.self.now.slots (omega arith) in let h = rw e at c.loop-i.invariant in omega arith
+returns c =
+    let slots = c.args.self.now.slots in
+    let first : FirstSlot is_none slots c.position.result = search rules in search (rules, free_told)

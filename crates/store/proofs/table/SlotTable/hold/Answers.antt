@@ -5,5 +5,5 @@ use Rattle.store.proofs.table.SlotTable.hold.Goals as goal
 pub invariant_of-self : goal.invariant_of-self
 invariant_of-self c = search (rules, apart_set, sound_set)
 
-pub returns : goal.returns
-returns c = search (rules, put_settings)
+pub returns-clause-after : goal.returns-clause-after
+returns-clause-after c = search (rules, put_settings)
