@@ -6,6 +6,7 @@ pub mod calls;
 
 #[derive(Drop)]
 pub struct Held {
+    // kept: fixed memory, since a receiver has no heap once it is made
     bytes: [u8; 780],
     start: usize,
     end: usize,

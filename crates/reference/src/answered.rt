@@ -1,7 +1,7 @@
 // What an answering answers.
 use crate::refusal::Verdict;
 
-#[derive(Clone, Copy)]
+#[derive(Clone, Copy, Debug, PartialEq, Eq)]
 pub enum Answered {
     // so many bytes of noise were dropped, and no frame is whole
     NothingWhole(usize),
@@ -10,7 +10,7 @@ pub enum Answered {
 }
 
 // A frame that was told: the noise before it, its class and ID, its verdict, and how many bytes were written for it.
-#[derive(Clone, Copy)]
+#[derive(Clone, Copy, Debug, PartialEq, Eq)]
 pub struct Telling {
     pub noise: usize,
     pub class: u8,

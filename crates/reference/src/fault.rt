@@ -1,5 +1,6 @@
 // Why a call is refused, and why the parts of a receiver are.
 ghost use Rattle.std.specs.Prelude.{◌≡◌};
+ghost use Rattle.reference.specs.declared.fault.PartsFault.TheVariants.{Catalogue};
 ghost use Rattle.reference.specs.Answers.{call_fault_number, parts_fault_number, parts_fault_entry, parts_fault_layer, parts_fault_key, parts_fault_item};
 
 use catalogue::CatalogueFault;
@@ -7,7 +8,7 @@ use std::error::Error;
 use std::fmt;
 
 // A refused call changes nothing.
-#[derive(Clone, Copy, Debug)]
+#[derive(Clone, Copy, Debug, PartialEq, Eq)]
 pub enum CallFault {
     // the receiver was made of parts that the check refuses
     Shut,
@@ -73,6 +74,7 @@ impl PartsFault {
     }
 
     // The entry at fault, of a catalogue; 0 where there is none.
+    // kept: `entry`, `layer`, `key` and `item` promise 0 where there is none, and an Option would promise something else
     pub fn entry(self) -> usize
         ensures { result ≡ parts_fault_entry self }
     {
@@ -112,6 +114,14 @@ impl PartsFault {
             PartsFault::DefaultsUnfit(item) => item,
             _ => 0,
         }
+    }
+}
+
+impl From<CatalogueFault> for PartsFault {
+    ghost from_gives = { λ cause fault. fault ≡ Catalogue cause };
+
+    fn from(cause: CatalogueFault) -> PartsFault {
+        PartsFault::Catalogue(cause)
     }
 }
 

@@ -6,7 +6,7 @@ use std::error::Error;
 use std::fmt;
 
 // The checks of a frame, in the order in which they are tried. The last four carry the place of an entry in the payload, or an item.
-#[derive(Clone, Copy, Debug)]
+#[derive(Clone, Copy, Debug, PartialEq, Eq)]
 pub enum Refusal {
     // neither VALSET nor VALGET nor VALDEL
     OtherId,
@@ -96,7 +96,7 @@ impl fmt::Display for Refusal {
 impl Error for Refusal {}
 
 // What a told frame gets: nothing, where it is outside the configuration class, or an ACK or a NAK.
-#[derive(Clone, Copy)]
+#[derive(Clone, Copy, Debug, PartialEq, Eq)]
 pub enum Verdict {
     Outside,
     Ack,
@@ -105,6 +105,7 @@ pub enum Verdict {
 
 impl Verdict {
     // The number of the refusal, 0 where there is none.
+    // kept: it promises 0 where there is none, and an Option would promise something else
     pub fn number(self) -> u8
         ensures { result ≡ verdict_number self }
     {

@@ -1,12 +1,13 @@
 -- The items that a key or selector names, removed one after the other.
-use Rattle.std.proofs.Common.{◌≡◌, ℕ, ◌+◌, ◌<◌, ◌≤◌, cond, List, [], ◌∷◌, map, length, take, set, Some, None, Ok, Err, Result, sym, refl, ap, ◌∙◌, ⊎_elim, arith}
-use Rattle.std.proofs.lemmas.Bool.{lt-ltb, le-ltb, cases_eq}
+use Rattle.std.proofs.Common.{◌≡◌, ℕ, ◌+◌, ◌<◌, ◌≤◌, Bool, true, false, cond, List, [], ◌∷◌, map, length, get_or, take, drop, set, Some, None, Ok, Err, Result, sym, refl, ap, ◌∙◌, arith}
+use Rattle.std.proofs.lemmas.List.{drop_more, drop_all}
+use Rattle.std.proofs.lemmas.Bool.{lt-ltb, le-ltb}
 use Rattle.std.proofs.lemmas.Bool.Decides.{nat_tests}
 use Rattle.item.specs.declared.selector.Selector.{Selector}
-use Rattle.item.specs.Selectors.{selector_of}
+use Rattle.item.specs.Selectors.{selector_of, names}
 use Rattle.item.specs.Values.{number}
 use Rattle.catalogue.specs.declared.entries.Entry.{Entry}
-use Rattle.catalogue.specs.Catalogues.{Listed, named_from}
+use Rattle.catalogue.specs.Catalogues.{Listed, blank}
 use Rattle.reference.specs.Requests.{Data, Changes, cut, read, read_map, keys_named, named_read, deleted, key_read, deletion_read, latest, and_later}
 use Rattle.request.specs.declared.change.Change.{Change}
 use Rattle.request.specs.declared.change.Change.TheVariants.{Remove}
@@ -15,37 +16,63 @@ use Rattle.request.specs.declared.data.EntryFault.TheVariants.{Cut, Unknown}
 use Rattle.request.specs.Changes.{changes_by}
 use Rattle.request.specs.Keys.{key_in}
 use Rattle.request.specs.Reading.{over, Within, Taken}
-use Rattle.request.proofs.Named.{key_at, keys_named_lem}
 use Rattle.request.proofs.Settled.{over_append, over_one, over_nil}
 
--- what is still to be removed, from a place on
+-- what is still to be removed, from an item on
 abbrev pub removals : Selector → ℕ → List Entry → Data
-removals s from es = map deleted (map (key_at es) (named_from s from es))
+removals s i es = map deleted (keys_named s (drop i es))
 
--- The loop: what is left to remove gives what is asked for; behind the first place an item was removed.
-pub record Removing (es : List Entry) (s : Selector) (before slots : List Change) (from : ℕ) : Type 0 where
-  pub left : over es slots (removals s from es) ≡ over es before (map deleted (keys_named s es))
-  pub some : 0 < from → 0 < length (keys_named s es)
+-- The loop: what is left to remove gives what is asked for, and whether an item was named yet.
+pub record Removing (es : List Entry) (s : Selector) (before slots : List Change) (i : ℕ) (named : Bool) : Type 0 where
+  pub left : over es slots (removals s i es) ≡ over es before (map deleted (keys_named s es))
+  pub some : named ≡ true → 0 < length (keys_named s es)
+  pub none : named ≡ false → keys_named s (drop i es) ≡ keys_named s es
 
-pub removing_start : (es : List Entry) (s : Selector) (before : List Change) → Removing es s before before 0
-removing_start es s before = record { left = ap (λ (ks : List ℕ). over es before (map deleted ks)) (sym (keys_named_lem s es)); some = λ lt. absurd (omega arith) }
+pub removing_start : (es : List Entry) (s : Selector) (before : List Change) → Removing es s before before 0 false
+removing_start es s before = record { left = refl; some = λ e. absurd (cc); none = λ e. refl }
 
-named_some : (es : List Entry) (s : Selector) (from i : ℕ) (is : List ℕ) → from ≡ 0 → named_from s from es ≡ i ∷ is → 0 < length (keys_named s es)
-named_some es s from i is z e =
-    let at : keys_named s es ≡ map (key_at es) (i ∷ is) = keys_named_lem s es ∙ ap (λ n. map (key_at es) (named_from s n es)) (sym z) ∙ ap (map (key_at es)) e in
-    let len = ap length at in
-    omega arith
+abbrev key_at : List Entry → ℕ → ℕ
+key_at es i = (get_or es i blank).key
 
-pub removing_more : (es : List Entry) (s : Selector) (before slots after : List Change) (from i : ℕ) → Removing es s before slots from
-    → Listed 0 es → length es ≤ 128 → length slots ≡ 128 → i < length es → named_from s from es ≡ i ∷ named_from s (i + 1) es → after ≡ set slots i Remove
-    → Removing es s before after (i + 1)
-removing_more es s before slots after from i inv listed few whole lt e is = record {
+keys_left : (s : Selector) (es : List Entry) (i : ℕ) → i < length es
+    → keys_named s (drop i es) ≡ cond (names s (key_at es i)) (key_at es i ∷ keys_named s (drop (i + 1) es)) (keys_named s (drop (i + 1) es))
+unfolding keys_named
+keys_left s es i lt = ap (keys_named s) (drop_more es i blank lt)
+
+keys_here : (s : Selector) (es : List Entry) (i : ℕ) → i < length es → true ≡ names s (key_at es i)
+    → keys_named s (drop i es) ≡ key_at es i ∷ keys_named s (drop (i + 1) es)
+keys_here s es i lt e =
+    keys_left s es i lt ∙ ap (λ b. cond b (key_at es i ∷ keys_named s (drop (i + 1) es)) (keys_named s (drop (i + 1) es))) (sym e)
+
+keys_past : (s : Selector) (es : List Entry) (i : ℕ) → i < length es → false ≡ names s (key_at es i)
+    → keys_named s (drop i es) ≡ keys_named s (drop (i + 1) es)
+keys_past s es i lt e =
+    keys_left s es i lt ∙ ap (λ b. cond b (key_at es i ∷ keys_named s (drop (i + 1) es)) (keys_named s (drop (i + 1) es))) (sym e)
+
+some_more : (es : List Entry) (s : Selector) (before slots : List Change) (i k : ℕ) (ks : List ℕ) (named : Bool) → Removing es s before slots i named
+    → keys_named s (drop i es) ≡ k ∷ ks → 0 < length (keys_named s es)
+some_more es s before slots i k ks true inv e = inv.some refl
+some_more es s before slots i k ks false inv e = let len = ap length (sym (inv.none refl) ∙ e) in omega arith
+
+pub removing_named : (es : List Entry) (s : Selector) (before slots after : List Change) (i : ℕ) (named : Bool) → Removing es s before slots i named
+    → Listed 0 es → length es ≤ 128 → length slots ≡ 128 → i < length es → true ≡ names s (key_at es i) → after ≡ set slots i Remove
+    → Removing es s before after (i + 1) true
+removing_named es s before slots after i named inv listed few whole lt e is = record {
   left = ap (λ (cs : List Change). over es cs (removals s (i + 1) es)) is
       ∙ ap (λ (c : Changes). and_later c (latest (removals s (i + 1) es))) (over_one es slots i Remove (key_at es i) None listed few whole lt refl refl)
       ∙ sym (over_append (changes_by es slots) (deleted (key_at es i) ∷ []) (removals s (i + 1) es))
-      ∙ ap (λ (is : List ℕ). over es slots (map deleted (map (key_at es) is))) (sym e)
+      ∙ ap (λ (ks : List ℕ). over es slots (map deleted ks)) (sym (keys_here s es i lt e))
       ∙ inv.left;
-  some = λ pos. ⊎_elim (λ z. named_some es s from i (named_from s (i + 1) es) z e) (λ ne. inv.some (omega arith)) (cases_eq from 0);
+  some = λ t. some_more es s before slots i (key_at es i) (keys_named s (drop (i + 1) es)) named inv (keys_here s es i lt e);
+  none = λ f. absurd (cc);
+}
+
+pub removing_past : (es : List Entry) (s : Selector) (before slots : List Change) (i : ℕ) (named : Bool) → Removing es s before slots i named
+    → i < length es → false ≡ names s (key_at es i) → Removing es s before slots (i + 1) named
+removing_past es s before slots i named inv lt e = record {
+  left = ap (λ (ks : List ℕ). over es slots (map deleted ks)) (sym (keys_past s es i lt e)) ∙ inv.left;
+  some = inv.some;
+  none = λ f. sym (keys_past s es i lt e) ∙ inv.none f;
 }
 
 -- the end: nothing is left to remove
@@ -54,18 +81,22 @@ some_named : (es : List Entry) (before : List Change) (ks : List ℕ) → 0 < le
 some_named es before [] lt = absurd (omega arith)
 some_named es before (k ∷ ks) lt = refl
 
-pub removing_end : (es : List Entry) (s : Selector) (before slots : List Change) (from : ℕ) → Removing es s before slots from → named_from s from es ≡ []
-    → (from ≡ 0 → ⊥) → Taken es (read_map (map deleted) (named_read (keys_named s es))) 4 before slots (Ok 4)
-removing_end es s before slots from inv none pos = record {
-  value = sym (some_named es before (keys_named s es) (inv.some (omega arith))
-      ∙ ap (read 4) (sym inv.left ∙ ap (λ (is : List ℕ). over es slots (map deleted (map (key_at es) is))) none ∙ over_nil (changes_by es slots)));
+none_left : (s : Selector) (es : List Entry) (i : ℕ) → length es ≤ i → keys_named s (drop i es) ≡ []
+unfolding keys_named
+none_left s es i le = ap (keys_named s) (drop_all i es le)
+
+pub removing_end : (es : List Entry) (s : Selector) (before slots : List Change) (i : ℕ) (named : Bool) → Removing es s before slots i named → length es ≤ i
+    → named ≡ true → Taken es (read_map (map deleted) (named_read (keys_named s es))) 4 before slots (Ok 4)
+removing_end es s before slots i named inv le e = record {
+  value = sym (some_named es before (keys_named s es) (inv.some e)
+      ∙ ap (read 4) (sym inv.left ∙ ap (λ (ks : List ℕ). over es slots (map deleted ks)) (none_left s es i le) ∙ over_nil (changes_by es slots)));
   within = (omega arith, omega arith);
 }
 
-pub removing_none : (es : List Entry) (s : Selector) (before slots : List Change) (from : ℕ) → named_from s from es ≡ [] → from ≡ 0
-    → Taken es (read_map (map deleted) (named_read (keys_named s es))) 4 before slots (Err Unknown)
-removing_none es s before slots from none z =
-    let empty : keys_named s es ≡ [] = keys_named_lem s es ∙ ap (λ n. map (key_at es) (named_from s n es)) (sym z) ∙ ap (map (key_at es)) none in
+pub removing_none : (es : List Entry) (s : Selector) (before slots : List Change) (i : ℕ) (named : Bool) → Removing es s before slots i named → length es ≤ i
+    → named ≡ false → Taken es (read_map (map deleted) (named_read (keys_named s es))) 4 before slots (Err Unknown)
+removing_none es s before slots i named inv le e =
+    let empty : keys_named s es ≡ [] = sym (inv.none e) ∙ none_left s es i le in
     record { value = sym (ap (λ (ks : List ℕ). read_map (over es before) (read_map (map deleted) (named_read ks))) empty); within = tt }
 
 -- The key or selector in front

@@ -1,3 +1,4 @@
+pub mod Actions
 pub mod Changes
 pub mod Head
 pub mod Keys

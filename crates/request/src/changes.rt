@@ -8,6 +8,7 @@ pub mod calls;
 
 #[derive(Clone, Copy)]
 pub struct ItemChanges {
+    // kept: fixed memory, since a receiver has no heap once it is made
     slots: [Change; 128],
     ghost whole: { length slots ≡ 128 },
 }

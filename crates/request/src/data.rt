@@ -1,6 +1,5 @@
 // The walk over the data of a set or delete: pairs of key and value, or keys and selectors, from byte 4 on and at most 64.
-ghost use Rattle.std.specs.Prelude.{◌≡◌, ◌≤◌, map, length};
-ghost use Rattle.catalogue.specs.Catalogues.{Listed};
+ghost use Rattle.std.specs.Prelude.{◌≡◌, map, length};
 ghost use Rattle.catalogue.specs.Owned.{entries_of};
 ghost use Rattle.item.specs.Selectors.{selector_of};
 ghost use Rattle.reference.specs.Requests.{read_map, pair_read, deletion_read, keys_named, named_read, deleted, latest, ok_map, data_of};
@@ -10,8 +9,8 @@ use crate::change::Change;
 use crate::changes::ItemChanges;
 use crate::head::{HEAD, VALSET};
 use crate::key::key_at;
-use catalogue::{Catalogue, Entry, find_item, next_named};
-use item::{read_value, size_of};
+use catalogue::{Catalogue, find_item};
+use item::{read_value, selector_of, size_of};
 use reference::Refusal;
 
 // The most entries of a request.
@@ -69,109 +68,77 @@ fn read_pair(bytes: &[u8]) -> Option<Pair>
     }
 }
 
-// Takes the pair at the front into the changes; answers how many bytes it takes.
-fn take_pair(
-    entries: &[Entry],
-    bytes: &[u8],
-    changes: &mut ItemChanges,
-) -> Result<usize, EntryFault>
-    requires few { length entries.now ≤ 128 }
-    requires listed { Listed 0 entries.now }
-    ensures { Taken entries.now (pair_read entries.now bytes.now) (length bytes.now) changes.old.slots changes.new.slots result }
-{
-    match read_pair(bytes) {
-        None => Err(EntryFault::Cut),
-        Some(pair) => match find_item(entries, pair.key) {
-            None => Err(EntryFault::Unknown),
-            Some(item) => {
-                changes.set(item, Change::Put(pair.value));
-                Ok(pair.len)
+impl ItemChanges {
+    // Takes the pair at the front; answers how many bytes it takes.
+    fn take_pair(&mut self, catalogue: &Catalogue, bytes: &[u8]) -> Result<usize, EntryFault>
+        ensures { Taken (entries_of catalogue.now) (pair_read (entries_of catalogue.now) bytes.now) (length bytes.now) self.old.slots self.new.slots result }
+    {
+        let pair = read_pair(bytes).ok_or(EntryFault::Cut)?;
+        let item = find_item(catalogue.entries(), pair.key).ok_or(EntryFault::Unknown)?;
+        self.set(item, Change::Put(pair.value));
+        Ok(pair.len)
+    }
+
+    // Removes each item that a key or selector names, and refuses one that names none; answers the bytes of a key or selector.
+    fn remove_named(&mut self, catalogue: &Catalogue, number: u32) -> Result<usize, EntryFault>
+        ensures { Taken (entries_of catalogue.now) (read_map (map deleted) (named_read (keys_named (selector_of number) (entries_of catalogue.now)))) 4 self.old.slots self.new.slots result }
+    {
+        let selector = selector_of(number);
+        let mut named = false;
+        for (item, entry) in catalogue.entries().iter().enumerate() {
+            if selector.names(entry.key) {
+                self.set(item, Change::Remove);
+                named = true;
             }
-        },
-    }
-}
-
-// Removes each item that a key or selector names, and refuses one that names none; answers the bytes of a key or selector.
-fn remove_named(
-    entries: &[Entry],
-    number: u32,
-    changes: &mut ItemChanges,
-) -> Result<usize, EntryFault>
-    requires few { length entries.now ≤ 128 }
-    requires listed { Listed 0 entries.now }
-    ensures { Taken entries.now (read_map (map deleted) (named_read (keys_named (selector_of number) entries.now))) 4 changes.old.slots changes.new.slots result }
-{
-    let mut from = 0usize;
-    while let Some(item) = next_named(entries, number, from) {
-        changes.set(item, Change::Remove);
-        from = item + 1;
-    }
-    // it is 0 still where none is named
-    if from == 0 {
-        return Err(EntryFault::Unknown);
-    }
-    Ok(KEY_BYTES)
-}
-
-// Takes the key or selector at the front into the changes; answers how many bytes it takes.
-fn take_removal(
-    entries: &[Entry],
-    bytes: &[u8],
-    changes: &mut ItemChanges,
-) -> Result<usize, EntryFault>
-    requires few { length entries.now ≤ 128 }
-    requires listed { Listed 0 entries.now }
-    ensures { Taken entries.now (deletion_read entries.now bytes.now) (length bytes.now) changes.old.slots changes.new.slots result }
-{
-    match key_at(bytes) {
-        None => Err(EntryFault::Cut),
-        Some(number) => remove_named(entries, number, changes),
-    }
-}
-
-// Takes the entry at the front of a request's data into the changes: of a set a pair, else a key or selector.
-fn take_entry(
-    entries: &[Entry],
-    id: u8,
-    bytes: &[u8],
-    changes: &mut ItemChanges,
-) -> Result<usize, EntryFault>
-    requires few { length entries.now ≤ 128 }
-    requires listed { Listed 0 entries.now }
-    ensures { Taken entries.now (entry_read entries.now id bytes.now) (length bytes.now) changes.old.slots changes.new.slots result }
-{
-    if id == VALSET {
-        take_pair(entries, bytes, changes)
-    } else {
-        take_removal(entries, bytes, changes)
-    }
-}
-
-// What the data of a set or delete make of each item of a catalogue.
-fn read_entries(entries: &[Entry], id: u8, payload: &[u8]) -> Result<ItemChanges, Refusal>
-    requires few { length entries.now ≤ 128 }
-    requires listed { Listed 0 entries.now }
-    ensures { changes_of entries.now result ≡ ok_map latest (data_of entries.now id payload.now) }
-{
-    let mut changes = ItemChanges::none();
-    let mut place = HEAD;
-    let mut left = MAX_ENTRIES;
-    while place < payload.len() {
-        if left == 0 {
-            return Err(Refusal::TooManyEntries(place));
         }
-        left -= 1;
-        match take_entry(entries, id, &payload[place..], &mut changes) {
-            Ok(len) => place += len,
-            Err(fault) => return Err(fault.at(place)),
+        if named {
+            Ok(KEY_BYTES)
+        } else {
+            Err(EntryFault::Unknown)
         }
     }
-    Ok(changes)
+
+    // Takes the key or selector at the front; answers how many bytes it takes.
+    fn take_removal(&mut self, catalogue: &Catalogue, bytes: &[u8]) -> Result<usize, EntryFault>
+        ensures { Taken (entries_of catalogue.now) (deletion_read (entries_of catalogue.now) bytes.now) (length bytes.now) self.old.slots self.new.slots result }
+    {
+        let number = key_at(bytes).ok_or(EntryFault::Cut)?;
+        self.remove_named(catalogue, number)
+    }
+
+    // Takes the entry at the front of a request's data: of a set a pair, else a key or selector.
+    fn take_entry(
+        &mut self,
+        catalogue: &Catalogue,
+        id: u8,
+        bytes: &[u8],
+    ) -> Result<usize, EntryFault>
+        ensures { Taken (entries_of catalogue.now) (entry_read (entries_of catalogue.now) id bytes.now) (length bytes.now) self.old.slots self.new.slots result }
+    {
+        if id == VALSET {
+            self.take_pair(catalogue, bytes)
+        } else {
+            self.take_removal(catalogue, bytes)
+        }
+    }
 }
 
 // What the data of a set or delete make of each item: the last value of a key stands.
 pub fn read_data(catalogue: &Catalogue, id: u8, payload: &[u8]) -> Result<ItemChanges, Refusal>
     ensures { changes_of (entries_of catalogue.now) result ≡ ok_map latest (data_of (entries_of catalogue.now) id payload.now) }
 {
-    read_entries(catalogue.entries(), id, payload)
+    let mut changes = ItemChanges::none();
+    // kept: entries differ in length, so no chunks or iterator of the library yields them
+    let mut place = HEAD;
+    for _entry in 0..MAX_ENTRIES {
+        if place >= payload.len() {
+            return Ok(changes);
+        }
+        let taken = changes.take_entry(catalogue, id, &payload[place..]);
+        place += taken.map_err(|fault| fault.at(place))?;
+    }
+    if place < payload.len() {
+        return Err(Refusal::TooManyEntries(place));
+    }
+    Ok(changes)
 }

@@ -1,13 +1,16 @@
 // The head of a payload: which layers and which action it names, and the checks of the head of a set or delete.
-ghost use Rattle.std.specs.Prelude.{◌≡◌, ℕ, List, slice_index};
+ghost use Rattle.std.specs.Prelude.{◌≡◌, Ok, slice_index};
 ghost use Rattle.reference.specs.Requests.{layers_of, same_layers, action_of};
-ghost use Rattle.request.specs.Head.{head_refusal, joining_refusal};
+ghost use Rattle.request.specs.Head.{head_refusal, joining_refusal, after_head};
+ghost use Rattle.request.specs.Actions.{action_number};
 
+use crate::action::Action;
 use reference::{Layers, Refusal};
 
 // The class of the three requests, and their IDs.
 pub const CONFIGURATION_CLASS: u8 = 0x06;
 
+// kept: an ID is any byte of the wire and each call here answers for every one, so an enum of the three would ask more of callers
 pub const VALSET: u8 = 0x8a;
 
 pub const VALGET: u8 = 0x8b;
@@ -21,17 +24,15 @@ pub(crate) const HEAD: usize = 4;
 pub fn byte_at(payload: &[u8], place: usize) -> u8
     ensures { result ≡ slice_index payload.now place }
 {
-    if place < payload.len() {
-        payload[place]
-    } else {
-        0
-    }
+    payload.get(place).copied().unwrap_or(0)
 }
 
-// The layers that a byte chooses: bit 0 RAM, 1 BBR, 2 Flash. Only a set chooses RAM, so only there bit 0 is read.
-fn layers_in(id: u8, byte: u8) -> Layers
-    ensures { (p : List ℕ) → byte ≡ slice_index p 1 → result ≡ layers_of id p }
+// The layers that a request is for: bit 0 RAM, 1 BBR, 2 Flash. Only a set chooses RAM, so only there bit 0 is read.
+#[tactic(auto, unfolding(reference::specs::Requests::layers_of))]
+pub fn layers_of(id: u8, payload: &[u8]) -> Layers
+    ensures { result ≡ layers_of id payload.now }
 {
+    let byte = byte_at(payload, 1);
     Layers {
         ram: id == VALSET && byte % 2 == 1,
         bbr: byte / 2 % 2 == 1,
@@ -39,70 +40,70 @@ fn layers_in(id: u8, byte: u8) -> Layers
     }
 }
 
-// The layers that a request is for.
-pub fn layers_of(id: u8, payload: &[u8]) -> Layers
-    ensures { result ≡ layers_of id payload.now }
+// What a request does with its data, by the bits 1..0 of a byte; version 0 only applies them.
+#[tactic(auto, unfolding(reference::specs::Requests::action_of))]
+pub fn action_of(payload: &[u8]) -> Action
+    ensures { action_number result ≡ action_of payload.now }
 {
-    layers_in(id, byte_at(payload, 1))
-}
-
-// The action in bits 1..0 of a byte; version 0 has only action 0.
-fn action_in(version: u8, byte: u8) -> u8
-    ensures { (p : List ℕ) → version ≡ slice_index p 0 → byte ≡ slice_index p 2 → result ≡ action_of p }
-{
-    if version == 1 { byte % 4 } else { 0 }
-}
-
-// What a request does with its data: 0 applies them, 1 opens a transaction with them, 2 adds them to it, 3 applies it.
-pub fn action_of(payload: &[u8]) -> u8
-    ensures { result ≡ action_of payload.now }
-{
-    action_in(byte_at(payload, 0), byte_at(payload, 2))
+    if byte_at(payload, 0) != 1 {
+        return Action::Apply;
+    }
+    match byte_at(payload, 2) % 4 {
+        0 => Action::Apply,
+        1 => Action::Open,
+        2 => Action::Add,
+        _ => Action::Close,
+    }
 }
 
 // Whether two choices of layers are the same.
 pub fn same_layers(a: Layers, b: Layers) -> bool
     ensures { result ≡ same_layers a b }
 {
-    a.ram == b.ram && a.bbr == b.bbr && a.flash == b.flash
+    a == b
 }
 
-// The first check of an action 2 or 3 against the open transaction that does not pass.
-fn joining_refusal(payload: &[u8], layers: Layers, opened: Option<Layers>) -> Option<Refusal>
-    ensures { result ≡ joining_refusal (action_of payload.now) payload.now layers opened }
+// The checks of an action against the open transaction, which only some join.
+fn check_joining(
+    action: Action,
+    payload: &[u8],
+    layers: Layers,
+    opened: Option<Layers>,
+) -> Result<(), Refusal>
+    ensures { result ≡ after_head (joining_refusal (action_number action) payload.now layers opened) (Ok tt) }
 {
-    let action = action_of(payload);
-    if action < 2 {
-        return None;
+    if !action.joins() {
+        return Ok(());
     }
-    match opened {
-        None => return Some(Refusal::NoneOpen),
-        Some(others) => {
-            if !same_layers(others, layers) {
-                return Some(Refusal::OtherLayers);
-            }
-        }
+    let others = opened.ok_or(Refusal::NoneOpen)?;
+    if !same_layers(others, layers) {
+        return Err(Refusal::OtherLayers);
     }
-    if action == 2 && payload.len() <= HEAD {
-        return Some(Refusal::NothingAdded);
+    if action == Action::Add && payload.len() <= HEAD {
+        return Err(Refusal::NothingAdded);
     }
-    None
+    Ok(())
 }
 
-// The first check that the head of a set or delete does not pass. `usable` says whether Flash is; `opened` are the layers of the open transaction,
-// none where none is open.
-pub fn head_refusal(id: u8, payload: &[u8], usable: bool, opened: Option<Layers>) -> Option<Refusal>
-    ensures { result ≡ head_refusal id payload.now usable opened }
+// The checks of the head of a set or delete; the first that does not pass refuses it. `usable` says whether Flash is; `opened` are the layers of
+// the open transaction, none where none is open.
+pub fn check_head(
+    id: u8,
+    payload: &[u8],
+    usable: bool,
+    opened: Option<Layers>,
+) -> Result<(), Refusal>
+    ensures { result ≡ after_head (head_refusal id payload.now usable opened) (Ok tt) }
 {
     if byte_at(payload, 0) > 1 {
-        return Some(Refusal::UnknownVersion);
+        return Err(Refusal::UnknownVersion);
     }
     let layers = layers_of(id, payload);
     if !layers.ram && !layers.bbr && !layers.flash {
-        return Some(Refusal::NoLayer);
+        return Err(Refusal::NoLayer);
     }
     if layers.flash && !usable {
-        return Some(Refusal::WrongLayer);
+        return Err(Refusal::WrongLayer);
     }
-    joining_refusal(payload, layers, opened)
+    check_joining(action_of(payload), payload, layers, opened)
 }

@@ -2,22 +2,25 @@
 //
 // change.rt   what becomes of one item
 // changes.rt  what becomes of each item
+// action.rt   what a request does with its data
 // key.rt      the key at a place of a payload
 // head.rt     the head of a payload and its checks
 // data.rt     the walk over the data of a set or delete
 #![tactic(auto)]
 
+mod action;
 mod change;
 mod changes;
 mod data;
 mod head;
 mod key;
 
+pub use action::Action;
 pub use change::Change;
 pub use changes::ItemChanges;
 pub use data::read_data;
 pub use head::{
-    CONFIGURATION_CLASS, VALDEL, VALGET, VALSET, action_of, byte_at, head_refusal, layers_of,
+    CONFIGURATION_CLASS, VALDEL, VALGET, VALSET, action_of, byte_at, check_head, layers_of,
     same_layers,
 };
 pub use key::key_at;

@@ -4,21 +4,6 @@ ghost use Rattle.held.specs.Meaning.{bytes_held};
 
 use super::Held;
 
-// The bytes from `start` to `end` moved to the front.
-fn moved(bytes: [u8; 780], start: usize, end: usize) -> [u8; 780]
-    requires len { length bytes ≡ 780 }
-    requires order { start ≤ end }
-    requires within { end ≤ 780 }
-    ensures front { take (end - start) result ≡ take (end - start) (drop start bytes) }
-    ensures len { length result ≡ 780 }
-{
-    let mut moved = bytes;
-    for k in 0..end - start {
-        moved[k] = moved[start + k];
-    }
-    moved
-}
-
 impl Held {
     // Nothing is held.
     pub fn new() -> Held
@@ -46,12 +31,9 @@ impl Held {
         ensures room { self.new.end + count ≤ 780 }
     {
         if self.end + count > 780 {
-            let start = self.start;
-            let end = self.end;
-            let bytes = moved(self.bytes, start, end);
-            self.bytes = bytes;
+            self.bytes.copy_within(self.start..self.end, 0);
+            self.end -= self.start;
             self.start = 0;
-            self.end = end - start;
         }
     }
 
@@ -64,6 +46,7 @@ impl Held {
     }
 
     // Writes bytes behind those held, where there is room.
+    #[tactic(auto, using(crate::proofs::Shift::written_behind))]
     fn write_behind(&mut self, bytes: &[u8])
         requires { self.old.end + length bytes.now ≤ 780 }
         ensures { bytes_held self.new ≡ bytes_held self.old ++ bytes.now }
@@ -87,10 +70,11 @@ impl Held {
     }
 
     // Drops so many bytes from the front, or all where there are fewer.
+    #[tactic(auto, using(crate::proofs::Shift::skip_some))]
     pub fn skip(&mut self, count: usize)
         ensures { bytes_held self.new ≡ drop count (bytes_held self.old) }
     {
-        let held = self.end - self.start;
+        let held = self.count();
         if count < held {
             self.start += count;
         } else {

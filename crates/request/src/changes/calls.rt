@@ -31,10 +31,7 @@ impl ItemChanges {
     pub fn at(&self, item: usize) -> Change
         ensures { result ≡ slice_index_or self.now.slots item no_change }
     {
-        match self.slots.get(item) {
-            Some(change) => *change,
-            None => Change::Keep,
-        }
+        self.slots.get(item).copied().unwrap_or(Change::Keep)
     }
 
     // One item changes so; an item beyond the 128th is passed over.
@@ -51,8 +48,8 @@ impl ItemChanges {
         ensures { (es : List Entry) → changes_by es result.slots ≡ and_later (changes_by es self.now.slots) (changes_by es later.now.slots) }
     {
         let mut slots = self.slots;
-        for i in 0..128 {
-            slots[i] = later_of(slots[i], later.slots[i]);
+        for (item, change) in later.slots.iter().enumerate() {
+            slots[item] = later_of(slots[item], *change);
         }
         ItemChanges { slots }
     }

@@ -1,0 +1,24 @@
+use Rattle.request.proofs.Removals.{removing_named, removing_past, removing_end, removing_none}
+use Rattle.request.proofs.changes.ItemChanges.remove_named.Goals as goal
+use Rattle.request.proofs.changes.ItemChanges.remove_named.Goals.{then-names, else-names}
+
+pub loop-item-preserved : goal.loop-item-preserved
+loop-item-preserved c =
+    let items = c.entries-entry-items.ensures in
+    let lt = rw items.value at c.loop-item-test.true in
+    elim c.if-names.branch [
+      | then-names w ↦ rw (w.self-is, w.named-is)
+          (removing_named _ _ _ _ _ _ _ c.loop-item.invariant (rw items.value at items.listed) (rw items.value at items.few) c.loop-item.self.whole lt
+          (rw items.value at w.if-names.ensures) w.set.ensures)
+      | else-names w ↦ rw (w.self-is, w.named-is) (removing_past _ _ _ _ _ _ c.loop-item.invariant lt (rw items.value at w.if-names.ensures))
+    ]
+
+pub returns-then-named : goal.returns-then-named
+returns-then-named c =
+    removing_end _ _ _ _ _ _ (rw c.selector_of-selector.ensures.value at c.loop-item.invariant)
+    (rw c.entries-entry-items.ensures.value at c.loop-item-test.false) c.if-named.true
+
+pub returns-else-named : goal.returns-else-named
+returns-else-named c =
+    removing_none _ _ _ _ _ _ (rw c.selector_of-selector.ensures.value at c.loop-item.invariant)
+    (rw c.entries-entry-items.ensures.value at c.loop-item-test.false) c.if-named.false

@@ -1,0 +1,26 @@
+use Rattle.std.proofs.Common.{sym, ◌∙◌}
+use Rattle.std.proofs.lemmas.Result.{err_from_is_err_and}
+use Rattle.request.proofs.Faults.{fault_is}
+use Rattle.request.proofs.Pairs.{pair_cut, pair_unknown, pair_taken}
+use Rattle.request.proofs.changes.ItemChanges.take_pair.Goals as goal
+
+pub returns-in_err-pair : goal.returns-in_err-pair
+returns-in_err-pair c =
+    let p = err_from_is_err_and c.from_residual.result c.from_residual.ensures.1 in
+    let cut = c.in_err-pair.ensures in
+    rw (p.1, p.2, fault_is _ _ _ cut.value cut.ok_part) (pair_cut _ _ _ _ (sym cut.ok_part ∙ c.read_pair.ensures))
+
+pub returns-in_err-item : goal.returns-in_err-item
+returns-in_err-item c =
+    let p = err_from_is_err_and c.from_residual-in_err-item.result c.from_residual-in_err-item.ensures.1 in
+    let none = c.in_err-item.ensures in
+    let pair = c.in_ok-pair.ensures in
+    rw (p.1, p.2, fault_is _ _ _ none.value none.ok_part)
+    (pair_unknown _ _ _ _ _ (sym pair.ok_part ∙ c.read_pair.ensures) (rw (c.entries.ensures.value, none.ok_part) at c.find_item.ensures))
+
+pub returns : goal.returns
+returns c =
+    let pair = c.in_ok-pair.ensures in
+    let some = c.in_ok-item.ensures in
+    pair_taken _ _ _ _ _ _ (sym pair.ok_part ∙ c.read_pair.ensures) (rw (c.entries.ensures.value, some.ok_part) at c.find_item.ensures)
+    (rw c.entries.ensures.value at c.entries.ensures.listed) (rw c.entries.ensures.value at c.entries.ensures.few) c.args.self.now.whole c.set.ensures
