@@ -1,3 +1,5 @@
 pub mod Numbers
 pub mod Setups
 pub mod Fields
+pub mod Calls
+pub mod Lending

@@ -1,6 +1,10 @@
 // The commands of a script, each with its arguments.
+ghost use Rattle.std.specs.Prelude.{◌≡◌};
+ghost use Rattle.reference.specs.Events.{asking_of};
+ghost use Rattle.script.specs.Calls.{own_asking};
+
 use catalogue::Entry;
-use reference::Battery;
+use reference::{Battery, Call};
 use rule::Need;
 
 // The two stores that a script sets up.
@@ -10,13 +14,18 @@ pub enum Place {
     Flash,
 }
 
-// What stands at a place: an empty table of slots or nothing at all, bare or under a saver.
+// An empty table of slots, or nothing at all.
 #[derive(Clone, Copy)]
-pub enum Choice {
+pub enum Medium {
     Slots,
     Absent,
-    SavedSlots,
-    SavedAbsent,
+}
+
+// What stands at a place: a medium, bare or under a saver.
+#[derive(Clone, Copy)]
+pub enum Choice {
+    Bare(Medium),
+    Saved(Medium),
 }
 
 // Of what a receiver is to be made.
@@ -37,6 +46,20 @@ pub enum OwnCall {
     Answer(usize),
     Look(u8, u32),
     Restart(Battery),
+}
+
+// The call, with its bytes lent.
+impl<'a> From<&'a OwnCall> for Call<'a> {
+    ghost from_gives = { λ own call. asking_of call ≡ own_asking own.now };
+
+    fn from(own: &'a OwnCall) -> Call<'a> {
+        match own {
+            OwnCall::Take(bytes) => Call::Take(bytes.as_slice()),
+            OwnCall::Answer(size) => Call::Answer(*size),
+            OwnCall::Look(layer, key) => Call::Look(*layer, *key),
+            OwnCall::Restart(battery) => Call::Restart(*battery),
+        }
+    }
 }
 
 #[derive(Drop)]

@@ -15,7 +15,7 @@ mod number;
 mod reading;
 mod setup;
 
-pub use command::{Choice, Command, OwnCall, Part, Place};
+pub use command::{Choice, Command, Medium, OwnCall, Part, Place};
 pub use fault::LineFault;
 pub use field::{read_entry, read_need};
 pub use number::{read_byte, read_count, read_kind, read_layer, read_value, read_word};

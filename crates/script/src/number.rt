@@ -26,10 +26,7 @@ fn digit_in(base: u128, byte: u8) -> Option<u128>
     requires { 1 ≤ base }
     ensures { result ≡ digit_in base byte }
 {
-    match digit_of(byte) {
-        Some(digit) if (digit as u128) < base => Some(digit as u128),
-        _ => None,
-    }
+    digit_of(byte).map(u128::from).filter(|digit| *digit < base)
 }
 
 // The number that all digits make, and the cap in place of any above it.
@@ -39,10 +36,7 @@ fn digits_in(base: u128, digits: &[u8]) -> Option<u128>
 {
     let mut number = 0u128;
     for byte in digits {
-        let Some(digit) = digit_in(base, *byte) else {
-            return None;
-        };
-        number = (number * base + digit).min(CAP);
+        number = (number * base + digit_in(base, *byte)?).min(CAP);
     }
     Some(number)
 }
@@ -57,81 +51,44 @@ fn number_in(base: u128, text: &str) -> Option<u128>
     digits_in(base, text.as_bytes())
 }
 
-// A number that is not above the most that is taken.
-fn number_up_to(most: u64, base: u128, text: &str) -> Option<u64>
-    requires { (1 ≤ base) × (base ≤ 16) }
-    ensures value { result ≡ up_to most (number_in base text.now) }
-{
-    match number_in(base, text) {
-        Some(number) if number <= most as u128 => Some(number as u64),
-        _ => None,
-    }
-}
-
 // A key or a word: a hexadecimal number below 2^32.
 pub fn read_word(text: &str) -> Option<u32>
     ensures { result ≡ up_to (2 ^ 32 - 1) (number_in 16 text.now) }
 {
-    match number_up_to(u32::MAX as u64, SIXTEEN, text) {
-        Some(number) => Some(number as u32),
-        None => None,
-    }
+    u32::try_from(number_in(SIXTEEN, text)?).ok()
 }
 
 // A byte: a hexadecimal number below 256.
 pub fn read_byte(text: &str) -> Option<u8>
     ensures { result ≡ up_to 255 (number_in 16 text.now) }
 {
-    match number_up_to(u8::MAX as u64, SIXTEEN, text) {
-        Some(number) => Some(number as u8),
-        None => None,
-    }
+    u8::try_from(number_in(SIXTEEN, text)?).ok()
 }
 
 // A value: a decimal number below 2^64.
 pub fn read_value(text: &str) -> Option<u64>
     ensures { result ≡ up_to (2 ^ 64 - 1) (number_in 10 text.now) }
 {
-    number_up_to(u64::MAX, TEN, text)
+    u64::try_from(number_in(TEN, text)?).ok()
 }
 
 // The kind of an item: a decimal number below 256.
 pub fn read_kind(text: &str) -> Option<u8>
     ensures { result ≡ up_to 255 (number_in 10 text.now) }
 {
-    match number_up_to(u8::MAX as u64, TEN, text) {
-        Some(number) => Some(number as u8),
-        None => None,
-    }
-}
-
-// A decimal number, and the most in place of any above it.
-fn number_or_most(most: u64, text: &str) -> Option<u64>
-    ensures { result ≡ capped most (number_in 10 text.now) }
-{
-    match number_in(TEN, text) {
-        Some(number) if number <= most as u128 => Some(number as u64),
-        Some(_) => Some(most),
-        None => None,
-    }
+    u8::try_from(number_in(TEN, text)?).ok()
 }
 
 // A count: any decimal number. One of 2^64 or more is read as 2^64 - 1.
 pub fn read_count(text: &str) -> Option<usize>
     ensures { result ≡ capped (2 ^ 64 - 1) (number_in 10 text.now) }
 {
-    match number_or_most(u64::MAX, text) {
-        Some(number) => Some(number as usize),
-        None => None,
-    }
+    Some(usize::try_from(number_in(TEN, text)?).unwrap_or(usize::MAX))
 }
 
 // The number of a layer: any decimal number. One of 256 or more is read as 255, which is no layer's either.
 pub fn read_layer(text: &str) -> Option<u8>
     ensures { result ≡ capped 255 (number_in 10 text.now) }
 {
-    match number_or_most(u8::MAX as u64, text) {
-        Some(number) => Some(number as u8),
-        None => None,
-    }
+    Some(u8::try_from(number_in(TEN, text)?).unwrap_or(u8::MAX))
 }

@@ -1,7 +1,7 @@
 // A line of a script, read into a command.
 ghost use Rattle.std.specs.Prelude.{◌≡◌, length, IfOk, vec_len};
 
-use crate::command::{Choice, Command, OwnCall, Part, Place};
+use crate::command::{Choice, Command, Medium, OwnCall, Part, Place};
 use crate::fault::LineFault;
 use crate::field::{count_in, key_in, layer_in, read_entry, read_need, value_in};
 use crate::number::read_byte;
@@ -37,22 +37,22 @@ pub fn read_line(heap: Global, line: &str) -> Result<Option<Command>, LineFault>
     if name.starts_with('#') {
         return Ok(None);
     }
-    match read_command(heap, name, rest) {
-        Ok(command) => Ok(Some(command)),
-        Err(fault) => Err(fault),
-    }
+    read_command(heap, name, rest).map(Some)
 }
 
 fn read_command(heap: Global, name: &str, words: &[&str]) -> Result<Command, LineFault> {
     match name {
         "new" => alone(words, Command::New),
         "make" => alone(words, Command::Make),
-        "take" | "answer" | "look" | "restart" => call_command(heap, name, words),
+        "take" => taking(heap, words).map(Command::Call),
+        "answer" => answering(words).map(Command::Call),
+        "look" => looking(words).map(Command::Call),
+        "restart" => restarting(words).map(Command::Call),
         "words" => Err(LineFault::NotBuilt("words")),
         "inspect" => Err(LineFault::NotBuilt("inspect")),
         "read" => Err(LineFault::NotBuilt("the host end")),
         _ if name.starts_with("host") => host_command(name),
-        _ => part_command(name, words),
+        _ => read_part(name, words).map(Command::SetUp),
     }
 }
 
@@ -65,28 +65,14 @@ fn alone(words: &[&str], command: Command) -> Result<Command, LineFault> {
 
 fn host_command(name: &str) -> Result<Command, LineFault> {
     match name {
-        "hostset" | "hostdel" | "hostget" => Err(LineFault::NotBuilt("the host end")),
-        "hostbegin" | "hostadd" => Err(LineFault::NotBuilt("the host end")),
-        "hostapply" | "hostabandon" => Err(LineFault::NotBuilt("the host end")),
+        "hostset" | "hostdel" | "hostget" | "hostbegin" | "hostadd" | "hostapply" | "hostabandon" =>
+            Err(LineFault::NotBuilt("the host end")),
         _ => Err(LineFault::UnknownCommand),
     }
 }
 
-fn call_command(heap: Global, name: &str, words: &[&str]) -> Result<Command, LineFault> {
-    let call = match name {
-        "take" => taking(heap, words),
-        "answer" => answering(words),
-        "look" => looking(words),
-        _ => restarting(words),
-    };
-    match call {
-        Ok(call) => Ok(Command::Call(call)),
-        Err(fault) => Err(fault),
-    }
-}
-
-fn part_command(name: &str, words: &[&str]) -> Result<Command, LineFault> {
-    let part = match name {
+fn read_part(name: &str, words: &[&str]) -> Result<Part, LineFault> {
+    match name {
         "entry" => entry_in(words),
         "need" => need_in(words),
         "bbr" => store_in(Place::Bbr, words),
@@ -95,10 +81,6 @@ fn part_command(name: &str, words: &[&str]) -> Result<Command, LineFault> {
         "remove" => remove_in(words),
         "clear" => clear_in(words),
         _ => Err(LineFault::UnknownCommand),
-    };
-    match part {
-        Ok(part) => Ok(Command::SetUp(part)),
-        Err(fault) => Err(fault),
     }
 }
 
@@ -117,28 +99,19 @@ fn need_in(words: &[&str]) -> Result<Part, LineFault> {
 }
 
 fn store_in(place: Place, words: &[&str]) -> Result<Part, LineFault> {
-    match words {
-        ["saver", under @ ..] => Ok(Part::Store(place, saved(choice_in(under)?))),
-        _ => Ok(Part::Store(place, choice_in(words)?)),
-    }
+    let choice = match words {
+        ["saver", under @ ..] => Choice::Saved(medium_in(under)?),
+        _ => Choice::Bare(medium_in(words)?),
+    };
+    Ok(Part::Store(place, choice))
 }
 
-fn choice_in(words: &[&str]) -> Result<Choice, LineFault> {
+fn medium_in(words: &[&str]) -> Result<Medium, LineFault> {
     match words {
-        ["slots"] => Ok(Choice::Slots),
-        ["absent"] => Ok(Choice::Absent),
+        ["slots"] => Ok(Medium::Slots),
+        ["absent"] => Ok(Medium::Absent),
         ["journal", ..] => Err(LineFault::NotBuilt("journal")),
         _ => Err(LineFault::Form(STORE)),
-    }
-}
-
-// The same under a saver.
-fn saved(choice: Choice) -> Choice {
-    match choice {
-        Choice::Slots => Choice::SavedSlots,
-        Choice::Absent => Choice::SavedAbsent,
-        Choice::SavedSlots => Choice::SavedSlots,
-        Choice::SavedAbsent => Choice::SavedAbsent,
     }
 }
 

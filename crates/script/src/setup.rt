@@ -2,9 +2,11 @@
 ghost use Rattle.std.specs.Prelude.{◌≡◌, [], ◌∷◌, ◌++◌, is_ok, if◌then◌else◌};
 ghost use Rattle.layer.specs.Stores.{put_answer, remove_answer, clear_answer, after_put, after_remove, after_clear};
 ghost use Rattle.store.specs.Any.{any_settings, any_usable, any_kind};
+ghost use Rattle.std.specs.Borrow.{sem};
+ghost use Rattle.script.specs.Lending.{LendsStore};
 ghost use Rattle.script.specs.Setups.{kind_of, store_at, other_place, Begun};
 
-use crate::command::{Choice, Place};
+use crate::command::{Choice, Medium, Place};
 use catalogue::Entry;
 use layer::{Absent, Saver, Store, StoreFault};
 use rule::Need;
@@ -25,12 +27,12 @@ pub fn chosen(choice: Choice) -> AnyStore
     ensures empty { any_settings result ≡ [] }
 {
     match choice {
-        Choice::Slots => AnyStore::Slots(SlotTable::new()),
-        Choice::Absent => AnyStore::Nowhere(Absent),
-        Choice::SavedSlots => AnyStore::SavedSlots(Saver {
+        Choice::Bare(Medium::Slots) => AnyStore::Slots(SlotTable::new()),
+        Choice::Bare(Medium::Absent) => AnyStore::Nowhere(Absent),
+        Choice::Saved(Medium::Slots) => AnyStore::SavedSlots(Saver {
             store: SlotTable::new(),
         }),
-        Choice::SavedAbsent => AnyStore::SavedNowhere(Saver { store: Absent }),
+        Choice::Saved(Medium::Absent) => AnyStore::SavedNowhere(Saver { store: Absent }),
     }
 }
 
@@ -42,8 +44,8 @@ impl Setup {
         Setup {
             entries: Vec::new(heap),
             needs: Vec::new(heap),
-            bbr: chosen(Choice::Slots),
-            flash: chosen(Choice::Absent),
+            bbr: chosen(Choice::Bare(Medium::Slots)),
+            flash: chosen(Choice::Bare(Medium::Absent)),
         }
     }
 
@@ -52,10 +54,8 @@ impl Setup {
         ensures needs { self.new.needs ≡ self.old.needs }
         ensures stores { (self.new.bbr ≡ self.old.bbr) × (self.new.flash ≡ self.old.flash) }
     {
-        match self.entries.push(entry) {
-            Ok(()) => Ok(()),
-            Err(_) => Err(AllocError),
-        }
+        self.entries.push(entry)?;
+        Ok(())
     }
 
     pub fn add_need(&mut self, need: Need) -> Result<(), AllocError>
@@ -63,9 +63,18 @@ impl Setup {
         ensures entries { self.new.entries ≡ self.old.entries }
         ensures stores { (self.new.bbr ≡ self.old.bbr) × (self.new.flash ≡ self.old.flash) }
     {
-        match self.needs.push(need) {
-            Ok(()) => Ok(()),
-            Err(_) => Err(AllocError),
+        self.needs.push(need)?;
+        Ok(())
+    }
+
+    // The store at the place.
+    fn store_mut(&mut self, place: Place) -> &mut AnyStore
+        ensures* lent { sem 𝓛 (LendsStore place self.entry result) }
+        ensures value { result.now ≡ store_at place self.old }
+    {
+        match place {
+            Place::Bbr => &mut self.bbr,
+            Place::Flash => &mut self.flash,
         }
     }
 
@@ -75,10 +84,7 @@ impl Setup {
         ensures empty { any_settings (store_at place self.new) ≡ [] }
         ensures other { store_at (other_place place) self.new ≡ store_at (other_place place) self.old }
     {
-        match place {
-            Place::Bbr => self.bbr = chosen(choice),
-            Place::Flash => self.flash = chosen(choice),
-        }
+        *self.store_mut(place) = chosen(choice);
     }
 
     pub fn put(&mut self, place: Place, key: u32, value: u64) -> Result<(), StoreFault>
@@ -86,10 +92,7 @@ impl Setup {
         ensures after { any_settings (store_at place self.new) ≡ after_put result key value (any_settings (store_at place self.old)) }
         ensures other { store_at (other_place place) self.new ≡ store_at (other_place place) self.old }
     {
-        match place {
-            Place::Bbr => self.bbr.put(key, value),
-            Place::Flash => self.flash.put(key, value),
-        }
+        self.store_mut(place).put(key, value)
     }
 
     pub fn remove(&mut self, place: Place, key: u32) -> Result<(), StoreFault>
@@ -97,10 +100,7 @@ impl Setup {
         ensures after { any_settings (store_at place self.new) ≡ after_remove result key (any_settings (store_at place self.old)) }
         ensures other { store_at (other_place place) self.new ≡ store_at (other_place place) self.old }
     {
-        match place {
-            Place::Bbr => self.bbr.remove(key),
-            Place::Flash => self.flash.remove(key),
-        }
+        self.store_mut(place).remove(key)
     }
 
     pub fn clear(&mut self, place: Place) -> Result<(), StoreFault>
@@ -108,9 +108,6 @@ impl Setup {
         ensures after { any_settings (store_at place self.new) ≡ after_clear result (any_settings (store_at place self.old)) }
         ensures other { store_at (other_place place) self.new ≡ store_at (other_place place) self.old }
     {
-        match place {
-            Place::Bbr => self.bbr.clear(),
-            Place::Flash => self.flash.clear(),
-        }
+        self.store_mut(place).clear()
     }
 }

@@ -1,6 +1,6 @@
 // Lines that are commands.
 use reference::Battery;
-use script::{Choice, Command, OwnCall, Part, Place, read_line};
+use script::{Choice, Command, Medium, OwnCall, Part, Place, read_line};
 use std::alloc::Global;
 use std::test::Fail;
 
@@ -51,10 +51,10 @@ fn named(heap: Global, line: &str) -> Option<(u8, u8)> {
         Place::Flash => 2,
     };
     let choice = match choice {
-        Choice::Slots => 0,
-        Choice::Absent => 1,
-        Choice::SavedSlots => 2,
-        Choice::SavedAbsent => 3,
+        Choice::Bare(Medium::Slots) => 0,
+        Choice::Bare(Medium::Absent) => 1,
+        Choice::Saved(Medium::Slots) => 2,
+        Choice::Saved(Medium::Absent) => 3,
     };
     Some((place, choice))
 }
