@@ -1,6 +1,7 @@
 -- The words behind a command: what each is read as, and what is said of the first that cannot be read.
 use Rattle.std.specs.Prelude.{ℕ, ◌-◌, ◌^◌, List, Some, None, Ok, Err, Option, Result}
 use Rattle.catalogue.specs.declared.entries.Entry.{Entry}
+use Rattle.catalogue.specs.Kinds.{kind_of}
 use Rattle.rule.specs.declared.need.Need.{Need}
 use Rattle.script.specs.declared.fault.LineFault.{LineFault}
 use Rattle.script.specs.declared.fault.LineFault.TheVariants.{NoKey, NoNumber, NoCount}
@@ -35,7 +36,7 @@ layer_read word = or_fault NoCount (capped 255 (number_in 10 word))
 abbrev pub entry_read : List ℕ → List ℕ → List ℕ → List ℕ → List ℕ → Result Entry LineFault
 entry_read key kind default low high =
     reading (key_read key) (λ k. reading (kind_read kind) (λ i. reading (value_read default) (λ d. reading (value_read low) (λ l. reading (value_read high) (λ h.
-    Ok (record { key = k; kind = i; default = d; low = l; high = h }))))))
+    Ok (record { key = k; kind = kind_of i; default = d; low = l; high = h }))))))
 
 -- a need, of the item that needs and the item that is needed
 abbrev pub need_read : List ℕ → List ℕ → Result Need LineFault

@@ -4,7 +4,7 @@ ghost use Rattle.script.specs.Fields.{key_read, kind_read, value_read, count_rea
 
 use crate::fault::LineFault;
 use crate::number::{read_count, read_kind, read_layer, read_value, read_word};
-use catalogue::Entry;
+use catalogue::{Entry, Kind};
 use rule::Need;
 
 pub(crate) fn key_in(word: &str) -> Result<u32, LineFault>
@@ -50,7 +50,8 @@ pub fn read_entry(
     ensures { result ≡ entry_read key.now kind.now default.now low.now high.now }
 {
     let key = key_in(key)?;
-    let kind = kind_in(kind)?;
+    // a number that names no kind is taken: the check of the catalogue refuses its entry
+    let kind = Kind::from(kind_in(kind)?);
     let default = value_in(default)?;
     let low = value_in(low)?;
     let high = value_in(high)?;

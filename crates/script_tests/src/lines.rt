@@ -1,4 +1,5 @@
 // Lines that are commands.
+use catalogue::Kind;
 use reference::Battery;
 use script::{Choice, Command, Medium, OwnCall, Part, Place, read_line};
 use std::alloc::Global;
@@ -29,7 +30,7 @@ fn parts(rt: HostRuntime) -> Result<(), Fail> {
         return Err(Fail::new("no entry"));
     };
     assert_eq!(rt; entry.key, 0x2091_033b);
-    assert_eq!(rt; entry.kind, 1);
+    assert_eq!(rt; entry.kind, Kind::Signed);
     assert_eq!(rt; entry.default, 2);
     assert_eq!(rt; entry.low, 3);
     assert_eq!(rt; entry.high, u64::MAX);
