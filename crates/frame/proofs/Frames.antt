@@ -355,3 +355,11 @@ both_right s m bs k lt p q = sym (both_there s m bs k lt ∙ cond-true _ _ _ (an
 pub check_missing : (s : CheckBytes) (m : Message) (bs : List ℕ) (k : ℕ) → length bs ≤ k → undecided ≡ at_check_bytes s m (drop k bs)
 unfolding at_check_bytes
 check_missing s m bs k le = sym (ap (at_check_bytes s m) (drop_all k bs le))
+
+-- what stands at the first byte by the bytes before the payload, and by the check bytes
+
+pub ruleset by_header = (standing_none, standing_other, standing_one, standing_other_second, standing_short, standing_long, standing_payload)
+
+pub ruleset by_check_bytes = (first_wrong, second_missing, second_wrong, both_right)
+
+pub ruleset by_start = (check_missing, passed_fits)

@@ -304,6 +304,8 @@ find_none bs = ap (counting (finding bs).message (finding bs).rest) (zero-add (f
 pub find_end : (bs : List ℕ) (i : ℕ) → length bs ≤ i → behind_all i (finding (drop i bs)) ≡ finding bs → record { skipped = i; message = None; rest = drop i bs } ≡ finding bs
 find_end bs i le inv = find_undecided bs i (drop i bs) refl inv (scan_past bs i le)
 
+pub ruleset by_search = (find_none, find_noise, find_undecided, find_end)
+
 -- Scanning whole bytes, place by place
 
 -- what has been scanned so far

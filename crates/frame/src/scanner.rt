@@ -20,6 +20,7 @@ pub enum Unheard {
 }
 
 // The length of the payload, by the bytes before it. Each byte is judged as soon as it is there.
+#[tactic(auto, using(crate::proofs::Frames::by_header))]
 fn payload_size(bytes: &[u8]) -> Result<usize, Unheard>
     ensures { Headed bytes.now result }
 {
@@ -46,6 +47,7 @@ fn payload_size(bytes: &[u8]) -> Result<usize, Unheard>
 }
 
 // What stands there where the first check byte is there too and the check bytes should be `sums`.
+#[tactic(auto, using(crate::proofs::Frames::by_check_bytes))]
 fn closed(bytes: &[u8], count: usize, sums: CheckBytes) -> Result<Frame<'_>, Unheard>
     requires { 6 + count < length bytes.now }
     ensures { standing_of result ≡ at_check_bytes sums (message_at count bytes.now) (drop (6 + count) bytes.now) }
@@ -68,6 +70,7 @@ fn closed(bytes: &[u8], count: usize, sums: CheckBytes) -> Result<Frame<'_>, Unh
 }
 
 // What stands at the first of the bytes, where `sums` tells the check bytes of a frame there whose payload has so many bytes.
+#[tactic(auto, using(crate::proofs::Frames::by_start))]
 fn start_by<F: FnOnce(usize) -> CheckBytes>(bytes: &[u8], sums: F) -> Result<Frame<'_>, Unheard>
     requires asked { (n : ℕ) → n ≤ max_payload → 6 + n < length bytes.now → F.pre sums n }
     requires told { (n : ℕ) (s : CheckBytes) → n ≤ max_payload → 6 + n < length bytes.now → F.post sums n s → s ≡ check_bytes (take (4 + n) (drop 2 bytes.now)) }
@@ -108,6 +111,7 @@ pub struct Found<'a> {
 }
 
 // Noise up to the first frame heard or undecided place, and that frame.
+#[tactic(auto, using(crate::proofs::Scanning::by_search))]
 pub fn find(bytes: &[u8]) -> Found<'_>
     ensures { finding_of result ≡ finding bytes.now }
 {
