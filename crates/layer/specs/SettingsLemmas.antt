@@ -77,9 +77,6 @@ value_merged_some k v [] ys e = absurd (let z : ◌≡◌ {A = ℕ} 0 1 = cc in 
 value_merged_some k v (x ∷ xs) ys e =
     grind (arith, nat_tests, value_merged_some k v xs ys, value_with_same x.key x.value (merged xs ys), value_with_other x.key x.value k (merged xs ys))
 
-pub value_from_upper : (k v : ℕ) (xs ys : List Setting) → Some v ≡ value_under k xs → Some v ≡ value_under k (merged xs ys)
-value_from_upper k v xs ys e = sym (value_merged_some k v xs ys (sym e))
-
 pub value_merged_none : (k : ℕ) (xs ys : List Setting) → value_under k xs ≡ None → value_under k (merged xs ys) ≡ value_under k ys
 value_merged_none k [] ys e = refl
 value_merged_none k (x ∷ xs) ys e = grind (arith, nat_tests, value_merged_none k xs ys, value_with_other x.key x.value k (merged xs ys))
@@ -106,7 +103,7 @@ value_merged_cases k v [] ys e = inr e
 value_merged_cases k v (x ∷ xs) ys e =
     grind (arith, nat_tests, value_merged_cases k v xs ys, value_with_same x.key x.value (merged xs ys), value_with_other x.key x.value k (merged xs ys))
 
-ascends_tail : (n : ℕ) (xs : List Setting) → Above n xs → Ascends xs
+pub ascends_tail : (n : ℕ) (xs : List Setting) → Above n xs → Ascends xs
 ascends_tail n [] a = tt
 ascends_tail n (x ∷ xs) a = a.1
 

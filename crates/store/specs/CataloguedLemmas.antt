@@ -1,5 +1,5 @@
 -- The defaults of a catalogue: a lawful layer, and what it answers.
-use Rattle.std.specs.Prelude.{◌≡◌, ℕ, Bool, true, false, cond, List, [], ◌∷◌, is_ok, Some, Ok, Err, Result, ◌==◌, nat_lt, find, refl}
+use Rattle.std.specs.Prelude.{◌≡◌, ℕ, Bool, true, false, cond, List, [], ◌∷◌, is_ok, Some, ◌==◌, nat_lt, find, refl}
 use Rattle.std.specs.Option.{option_map}
 use Rattle.std.proofs.lemmas.Bool.Decides.{nat_tests}
 use Rattle.std.proofs.Common.{subst, arith}
@@ -7,17 +7,11 @@ use Rattle.std.proofs.lemmas.Bool.{and_parts, eqb-true}
 use Rattle.item.specs.Keys.{well_formed, fits_key}
 use Rattle.catalogue.specs.Catalogues.{kind_suits, read_fits, allows, is_sound, entries_checked, Listed}
 use Rattle.catalogue.specs.declared.entries.Entry.{Entry}
-use Rattle.catalogue.specs.declared.entries.CatalogueFault.{CatalogueFault}
-use Rattle.catalogue.proofs.Catalogues.{listed_from}
-use Rattle.layer.specs.declared.setting.Setting.{Setting}
+use Rattle.catalogue.proofs.Catalogues.{checked_listed}
 use Rattle.layer.specs.Settings.{is_setting, value_under, key_above, Above, Ascends, Sound}
 use Rattle.store.specs.Catalogued.{defaults_of}
-use Rattle.layer.specs.SettingsLemmas.{none_sound}
+use Rattle.layer.specs.SettingsLemmas.{none_sound, ascends_tail}
 use Rattle.layer.proofs.Stores.{setting_from}
-
-ok_is : (r : Result (Unit {0}) CatalogueFault) → is_ok r ≡ true → r ≡ Ok tt
-ok_is (Ok tt) e = refl
-ok_is (Err f) e = let z : ◌≡◌ {A = ℕ} 0 1 = cc in absurd (omega arith)
 
 -- The laws
 
@@ -44,15 +38,11 @@ listed_sound n (e ∷ es) l k v = go (e.key == k) refl (listed_sound e.key es l.
         let value : e.default ≡ v = cc in
         subst (λ x. is_setting k x ≡ true) value (subst (λ x. is_setting x e.default ≡ true) same (default_setting e l.1 l.2))
 
-above_ascends : (n : ℕ) (ss : List Setting) → Above n ss → Ascends ss
-above_ascends n [] a = tt
-above_ascends n (s ∷ ss) a = a.1
-
 pub defaults_ascend : (es : List Entry) → is_ok (entries_checked 0 0 es) ≡ true → Ascends (defaults_of es)
-defaults_ascend es e = above_ascends 0 (defaults_of es) (listed_above 0 es (listed_from 0 0 es (ok_is (entries_checked 0 0 es) e)))
+defaults_ascend es e = ascends_tail 0 (defaults_of es) (listed_above 0 es (checked_listed es e))
 
 pub defaults_sound : (es : List Entry) → is_ok (entries_checked 0 0 es) ≡ true → Sound (defaults_of es)
-defaults_sound es e = listed_sound 0 es (listed_from 0 0 es (ok_is (entries_checked 0 0 es) e))
+defaults_sound es e = listed_sound 0 es (checked_listed es e)
 
 -- What the first entry that passes a test gives
 

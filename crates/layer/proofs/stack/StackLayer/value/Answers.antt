@@ -6,4 +6,4 @@ pub returns : goal.returns
 returns g c =
     let stack = c.args.self.now in
     value_chosen c.args.key (g.U.Layer.settings stack.upper) (g.L.Layer.settings stack.lower) c.value.result c.or_else.result
-        (λ asked. search rules) c.value.ensures c.or_else.ensures
+    (λ asked. search rules) c.value.ensures c.or_else.ensures
