@@ -1,5 +1,6 @@
 // Why a call is refused, and why the parts of a receiver are.
 ghost use Rattle.std.specs.Prelude.{◌≡◌};
+ghost use Rattle.reference.specs.declared.fault.PartsFault.TheVariants.{Catalogue};
 ghost use Rattle.reference.specs.Answers.{call_fault_number, parts_fault_number, parts_fault_entry, parts_fault_layer, parts_fault_key, parts_fault_item};
 
 use catalogue::CatalogueFault;
@@ -112,6 +113,14 @@ impl PartsFault {
             PartsFault::DefaultsUnfit(item) => item,
             _ => 0,
         }
+    }
+}
+
+impl From<CatalogueFault> for PartsFault {
+    ghost from_gives = { λ cause fault. fault ≡ Catalogue cause };
+
+    fn from(cause: CatalogueFault) -> PartsFault {
+        PartsFault::Catalogue(cause)
     }
 }
 
