@@ -1,30 +1,34 @@
 -- The walk over the keys that a layer holds.
-use Rattle.std.proofs.Common.{◌≡◌, ℕ, zero, suc, ◌<◌, Bool, true, false, cond, not, List, [], ◌∷◌, length, get_or, Some, None, Option, sym, refl, ap, ◌∙◌, ⊎_elim, arith}
+use Rattle.std.proofs.Common.{◌≡◌, ℕ, zero, suc, ◌<◌, true, false, cond, List, [], ◌∷◌, length, get_or, Some, None, Option, is_some, sym, refl, ap, ◌∙◌, ⊎_elim, arith}
 use Rattle.std.proofs.lemmas.Bool.Decides.{nat_tests}
-use Rattle.std.proofs.lemmas.Bool.{cases_lt, or_left, or_right, or_from, eq-eqb, ne_eqb, cond-true}
+use Rattle.std.proofs.lemmas.Bool.{cases_lt, or_left, or_right, or_from, eq-eqb, ne_eqb, cond-true, cond-false}
 use Rattle.item.specs.Keys.{well_formed}
 use Rattle.catalogue.specs.declared.entries.Entry.{Entry}
-use Rattle.catalogue.specs.Catalogues.{blank}
+use Rattle.catalogue.specs.Catalogues.{blank, FirstWith}
 use Rattle.layer.specs.declared.setting.Setting.{Setting}
 use Rattle.layer.specs.Settings.{setting, key_above, Above, Ascends, Sound}
 use Rattle.layer.proofs.Stores.{setting_key}
 use Rattle.reference.specs.Requests.{is_known}
 use Rattle.reference.specs.Parts.{stray_key}
-use Rattle.configuration.specs.Strays.{above, NextHeld}
+use Rattle.configuration.specs.Strays.{above}
 
 -- whether an item has a key, by the finder
 
-pub known_at : (k i : ℕ) (es : List Entry) → i < length es → (get_or es i blank).key ≡ k → true ≡ is_known es k
+known_at : (k i : ℕ) (es : List Entry) → i < length es → (get_or es i blank).key ≡ k → true ≡ is_known es k
 unfolding is_known
 known_at k i [] lt e = absurd (omega arith)
 known_at k zero (x ∷ xs) lt e = sym (or_left _ _ (eq-eqb x.key k e))
 known_at k (suc i) (x ∷ xs) lt e = sym (or_right _ _ (sym (known_at k i xs (omega arith) e)))
 
-pub known_none : (k : ℕ) (es : List Entry) → ((j : ℕ) → j < length es → (get_or es j blank).key ≡ k → ⊥) → false ≡ is_known es k
+known_none : (k : ℕ) (es : List Entry) → ((j : ℕ) → j < length es → (get_or es j blank).key ≡ k → ⊥) → false ≡ is_known es k
 unfolding is_known
 known_none k [] all = refl
 known_none k (x ∷ xs) all =
     sym (or_from _ _ (ne_eqb x.key k (all 0 (omega arith))) (sym (known_none k xs (λ j h. all (suc j) (omega arith)))))
+
+pub known_where : (k : ℕ) (es : List Entry) (place : Option ℕ) → FirstWith k es place → is_some place ≡ is_known es k
+known_where k es None none = known_none k es none
+known_where k es (Some i) found = known_at k i es found.0 found.1
 
 -- a key that is held is above 0
 
@@ -65,24 +69,28 @@ above_next m n k (s ∷ ss) a e =
     let next : Next n k v (s ∷ ss) = (grind (arith, nat_tests), lt) in (v, next))
     (cases_lt n s.key)
 
-stray_else : (b : Bool) (k : ℕ) (o : Option ℕ) → cond b o (Some k) ≡ cond (not b) (Some k) o
-stray_else true k o = refl
-stray_else false k o = refl
+module _ (es : List Entry) (n k : ℕ) (ss : List Setting) (a : Ascends ss) (sound : Sound ss) (e : Some k ≡ key_above n ss) where
+  next_on : stray_key es (above n ss) ≡ cond (is_known es k) (stray_key es (above k ss)) (Some k)
+  unfolding stray_key
+  next_on = let next = above_next 0 n k ss (above_zero ss a sound) e in ap (stray_key es) next.1.0
 
-pub held_next : (es : List Entry) (n k : ℕ) (ss : List Setting) (b : Bool) → Ascends ss → Sound ss → Some k ≡ key_above n ss → b ≡ is_known es k → NextHeld es n ss (record { key = k; stray = not b })
-unfolding stray_key
-held_next es n k ss b a sound e known =
-    let next = above_next 0 n k ss (above_zero ss a sound) e in
-    record {
-      on =
-          ap (stray_key es) next.1.0 ∙ ap (λ c. cond c (stray_key es (above k ss)) (Some k)) (sym known) ∙ stray_else b k (stray_key es (above k ss));
-      shorter = let longer = ap length next.1.0 in omega arith;
-    }
+  -- it is the stray one
+  pub stray_here : false ≡ is_known es k → stray_key es (above n ss) ≡ Some k
+  stray_here none = next_on ∙ cond-false _ _ _ (sym none)
 
-pub held_last : (es : List Entry) (n : ℕ) (ss : List Setting) → None ≡ key_above n ss → stray_key es (above n ss) ≡ None
+  -- or that is behind it
+  pub stray_past : true ≡ is_known es k → stray_key es (above k ss) ≡ stray_key es (above n ss)
+  stray_past known = sym (next_on ∙ cond-true _ _ _ (sym known))
+
+  pub shorter : length (above k ss) < length (above n ss)
+  shorter =
+      let next = above_next 0 n k ss (above_zero ss a sound) e in
+      let longer = ap length next.1.0 in omega arith
+
+pub stray_none : (es : List Entry) (n : ℕ) (ss : List Setting) → None ≡ key_above n ss → stray_key es (above n ss) ≡ None
 unfolding stray_key
-held_last es n [] e = refl
-held_last es n (s ∷ ss) e = grind (arith, nat_tests, held_last es n ss)
+stray_none es n [] e = refl
+stray_none es n (s ∷ ss) e = grind (arith, nat_tests, stray_none es n ss)
 
 -- at the start all is left
 pub stray_start : (es : List Entry) (ss : List Setting) → Ascends ss → Sound ss → stray_key es (above 0 ss) ≡ stray_key es ss

@@ -1,6 +1,6 @@
 -- What a layer holds, gathered entry by entry: keys ascend, so each setting comes behind those before it, and no put is refused.
-use Rattle.std.proofs.Common.{◌≡◌, ℕ, ◌+◌, ◌<◌, ◌≤◌, Bool, true, false, cond, ltb, List, [], ◌∷◌, ◌++◌, length, get_or, drop, is_some, Some, None, Ok, Option, sym, refl, ap, ◌∙◌, append_assoc, append-nil, arith}
-use Rattle.std.proofs.lemmas.List.{at_drop_more, at_drop_all, length_push}
+use Rattle.std.proofs.Common.{◌≡◌, ℕ, ◌+◌, ◌<◌, ◌≤◌, Bool, true, false, cond, ltb, List, [], ◌∷◌, ◌++◌, length, drop, is_some, Some, None, Ok, Option, sym, refl, ap, ◌∙◌, append_assoc, append-nil, arith}
+use Rattle.std.proofs.lemmas.List.{at_drop_all, length_push}
 use Rattle.std.proofs.lemmas.Bool.{cond-true, lt-ltb}
 use Rattle.catalogue.specs.declared.entries.Entry.{Entry}
 use Rattle.catalogue.specs.Catalogues.{Listed}
@@ -64,12 +64,6 @@ gathered_behind ls sound n (e ∷ es) ss l b few =
         ap (gathered_from ls es) (put_last n e.key v ss (sound e.key v is) b above (omega arith))
         ∙ rest (ss ++ last ∷ []) (below_push e.key ss last below (omega arith)) (omega arith)
         ∙ append_assoc ss (last ∷ []) (held_under es ls)
-
--- one entry more
-pub gathered_more : (ls : List Setting) (es : List Entry) (i : ℕ) (e : Entry) (ss ts a : List Setting) → i < length es
-    → ts ≡ gathering (get_or es i e).key (value_under (get_or es i e).key ls) ss → gathered_from ls (drop i es) ss ≡ a → gathered_from ls (drop (i + 1) es) ts ≡ a
-gathered_more ls es i e ss ts a lt is inv =
-    ap (gathered_from ls (drop (i + 1) es)) is ∙ sym (at_drop_more (λ (l : List Entry). gathered_from ls l ss) es i e lt) ∙ inv
 
 -- the last entry is passed
 pub gathered_all : (ls : List Setting) (es : List Entry) (i : ℕ) (ss : List Setting) → Sound ls → Listed 0 es → length es ≤ 128 → length es ≤ i

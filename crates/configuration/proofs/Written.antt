@@ -1,7 +1,7 @@
 -- Changes applied entry by entry: since keys ascend, the change under an entry's key is the slot at its place.
-use Rattle.std.proofs.Common.{◌≡◌, ℕ, ◌+◌, ◌<◌, ◌≤◌, List, [], ◌∷◌, length, get_or, drop, sym, refl, ap, ◌∙◌, ap₂, arith}
+use Rattle.std.proofs.Common.{◌≡◌, ℕ, ◌<◌, ◌≤◌, List, [], ◌∷◌, length, drop, sym, refl, ap, ◌∙◌, arith}
 use Rattle.std.proofs.lemmas.Bool.Decides.{nat_tests}
-use Rattle.std.proofs.lemmas.List.{drop_more, drop_all}
+use Rattle.std.proofs.lemmas.List.{drop_all}
 use Rattle.catalogue.specs.declared.entries.Entry.{Entry}
 use Rattle.catalogue.specs.Catalogues.{Listed}
 use Rattle.reference.specs.Stores.{Store}
@@ -40,14 +40,6 @@ written_by_lem n (e ∷ es) (c ∷ cs) s l le =
     ap (λ o. written es d (written_one o e.key s)) (here e es c cs)
     ∙ written_agree e.key es d (changes_by es cs) (written_one (change_of c) e.key s) l.3 (there e es c cs)
     ∙ written_by_lem e.key es cs (written_one (change_of c) e.key s) l.3 (omega arith)
-
--- one entry more
-pub by_more : (es : List Entry) (cs : List Change) (i : ℕ) (e : Entry) (c d : Change) (s t a : Store) → length es ≤ 128 → length cs ≡ 128 → i < length es
-    → d ≡ get_or cs i c → t ≡ written_one (change_of d) (get_or es i e).key s → written_by (drop i es) (drop i cs) s ≡ a → written_by (drop (i + 1) es) (drop (i + 1) cs) t ≡ a
-by_more es cs i e c d s t a le whole lt slot is inv =
-    ap (written_by (drop (i + 1) es) (drop (i + 1) cs)) (is ∙ ap (λ x. written_one (change_of x) (get_or es i e).key s) slot)
-    ∙ sym (ap₂ (λ (l : List Entry) (m : List Change). written_by l m s) (drop_more es i e lt) (drop_more cs i c (omega arith)))
-    ∙ inv
 
 -- the last entry is passed
 pub by_end : (es : List Entry) (cs : List Change) (i : ℕ) (s b : Store) → length es ≤ 128 → length cs ≡ 128 → Listed 0 es → length es ≤ i

@@ -1,13 +1,12 @@
 // Applying changes to a store, and what is left of one when its battery was lost.
-ghost use Rattle.std.specs.Prelude.{◌≡◌, ◌≤◌, length};
-ghost use Rattle.catalogue.specs.Catalogues.{Listed};
+ghost use Rattle.std.specs.Prelude.{◌≡◌};
 ghost use Rattle.catalogue.specs.Owned.{entries_of};
 ghost use Rattle.reference.specs.Receiver.{written_one, written, after_battery};
 ghost use Rattle.request.specs.Changes.{change_of, changes_by};
 ghost use Rattle.reference.specs.Stores.{store_of};
 
 use crate::writing::{clear_all, put_value, remove_value};
-use catalogue::{Catalogue, Entry};
+use catalogue::Catalogue;
 use layer::{Layer, Store};
 use reference::Battery;
 use request::{Change, ItemChanges};
@@ -23,22 +22,13 @@ fn apply_one<S: Store>(store: &mut S, key: u32, change: Change)
     }
 }
 
-// Each entry's change, in their order.
-fn apply_each<S: Store>(entries: &[Entry], changes: &ItemChanges, store: &mut S)
-    requires few { length entries.now ≤ 128 }
-    requires listed { Listed 0 entries.now }
-    ensures { store_of S.Store.usable S.Layer.settings store.new ≡ written entries.now (changes_by entries.now changes.now.slots) (store_of S.Store.usable S.Layer.settings store.old) }
-{
-    for i in 0..entries.len() {
-        apply_one(store, entries[i].key, changes.at(i));
-    }
-}
-
 // Applies what becomes of each item, in ascending key order. What the store refuses is passed over.
 pub fn apply_changes<S: Store>(catalogue: &Catalogue, changes: &ItemChanges, store: &mut S)
     ensures { store_of S.Store.usable S.Layer.settings store.new ≡ written (entries_of catalogue.now) (changes_by (entries_of catalogue.now) changes.now.slots) (store_of S.Store.usable S.Layer.settings store.old) }
 {
-    apply_each(catalogue.entries(), changes, store);
+    for (item, entry) in catalogue.entries().iter().enumerate() {
+        apply_one(store, entry.key, changes.at(item));
+    }
 }
 
 // A store that the battery keeps: cleared where it was lost.

@@ -1,12 +1,11 @@
 // What a layer holds under the keys of a catalogue, gathered into a slot table.
-ghost use Rattle.std.specs.Prelude.{◌≡◌, ◌≤◌, length};
-ghost use Rattle.catalogue.specs.Catalogues.{Listed};
+ghost use Rattle.std.specs.Prelude.{◌≡◌};
 ghost use Rattle.catalogue.specs.Owned.{entries_of};
 ghost use Rattle.layer.specs.Settings.{value_under};
 ghost use Rattle.store.specs.Slots.{settings_of};
 ghost use Rattle.configuration.specs.Meaning.{gathering, held_under};
 
-use catalogue::{Catalogue, Entry};
+use catalogue::Catalogue;
 use layer::{Layer, Store};
 use store::SlotTable;
 
@@ -19,22 +18,13 @@ fn gather_one<L: Layer>(layer: &L, key: u32, table: &mut SlotTable)
     }
 }
 
-// The keys ascend, and there is room for 128: so no put is refused.
-fn gather_each<L: Layer>(entries: &[Entry], layer: &L) -> SlotTable
-    requires few { length entries.now ≤ 128 }
-    requires listed { Listed 0 entries.now }
-    ensures { settings_of result.slots ≡ held_under entries.now (L.Layer.settings layer.now) }
-{
-    let mut table = SlotTable::new();
-    for entry in entries {
-        gather_one(layer, entry.key, &mut table);
-    }
-    table
-}
-
-// A table with what the layer holds under the catalogue's keys.
+// A table with what the layer holds under the catalogue's keys. They ascend, and there is room for 128: so no put is refused.
 pub fn gathered<L: Layer>(catalogue: &Catalogue, layer: &L) -> SlotTable
     ensures { settings_of result.slots ≡ held_under (entries_of catalogue.now) (L.Layer.settings layer.now) }
 {
-    gather_each(catalogue.entries(), layer)
+    let mut table = SlotTable::new();
+    for entry in catalogue.entries() {
+        gather_one(layer, entry.key, &mut table);
+    }
+    table
 }

@@ -1,5 +1,5 @@
 // One value for each item, and what a rule finds in them.
-ghost use Rattle.std.specs.Prelude.{◌≡◌, ◌≤◌, map, length, take};
+ghost use Rattle.std.specs.Prelude.{◌≡◌, map, length, take};
 ghost use Rattle.catalogue.specs.Owned.{entries_of};
 ghost use Rattle.reference.specs.Receiver.{configuration};
 ghost use Rattle.reference.specs.Stores.{store_of};
@@ -13,35 +13,27 @@ use rule::Rule;
 fn value_in<S: Store>(store: &S, entry: &Entry) -> u64
     ensures { result ≡ item_value (store_of S.Store.usable S.Layer.settings store.now) entry.now }
 {
-    match store.value(entry.key) {
-        Some(value) => value,
-        None => entry.default,
-    }
+    store.value(entry.key).unwrap_or(entry.default)
 }
 
-fn values_in<S: Store>(entries: &[Entry], store: &S) -> [u64; 128]
-    requires { length entries.now ≤ 128 }
-    ensures row { take (length entries.now) result ≡ map (item_value (store_of S.Store.usable S.Layer.settings store.now)) entries.now }
+// The configuration that a store gives: a value for each item, and behind them none that is read.
+fn values_in<S: Store>(catalogue: &Catalogue, store: &S) -> [u64; 128]
+    ensures row { take (length (entries_of catalogue.now)) result ≡ map (item_value (store_of S.Store.usable S.Layer.settings store.now)) (entries_of catalogue.now) }
     ensures len { length result ≡ 128 }
 {
     let mut values = [0u64; 128];
-    for i in 0..entries.len() {
-        values[i] = value_in(store, &entries[i]);
+    // kept: values are written by number, since nothing is known of a slice after an adapter of its `iter_mut`
+    for (item, entry) in catalogue.entries().iter().enumerate() {
+        values[item] = value_in(store, entry);
     }
     values
-}
-
-pub(crate) fn fault_of<S: Store, R: Rule>(entries: &[Entry], store: &S, rule: &R) -> Option<usize>
-    requires { length entries.now ≤ 128 }
-    ensures { result ≡ R.Rule.finding rule.now entries.now (configuration entries.now (store_of S.Store.usable S.Layer.settings store.now)) }
-{
-    let values = values_in(entries, store);
-    rule.find(entries, &values[0..entries.len()])
 }
 
 // The item at fault in the configuration that a store gives: none where the rule finds it fit.
 pub fn fault_in<S: Store, R: Rule>(catalogue: &Catalogue, store: &S, rule: &R) -> Option<usize>
     ensures { result ≡ R.Rule.finding rule.now (entries_of catalogue.now) (configuration (entries_of catalogue.now) (store_of S.Store.usable S.Layer.settings store.now)) }
 {
-    fault_of(catalogue.entries(), store, rule)
+    let entries = catalogue.entries();
+    let values = values_in(catalogue, store);
+    rule.find(entries, &values[0..entries.len()])
 }
