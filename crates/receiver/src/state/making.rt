@@ -15,7 +15,7 @@ use configuration::{check, stack_ram};
 use held::Held;
 use layer::{Stack, Store};
 use rule::Rule;
-use store::{CatalogueDefaults, SlotTable};
+use store::{Defaults, SlotTable};
 
 // What a receiver is made of, but for the catalogue, which it copies.
 pub struct Parts<B, F, R> {
@@ -27,7 +27,7 @@ pub struct Parts<B, F, R> {
 // RAM as it is stacked, or empty in a shut receiver.
 fn first_ram<B: Store, F: Store, R: Rule>(
     shut: bool,
-    layers: &Stack<Stack<B, F>, CatalogueDefaults>,
+    layers: &Stack<Stack<B, F>, Defaults>,
     rule: &R,
 ) -> SlotTable
     ensures { settings_of result.slots ≡ (if shut then [] else stacked (entries_of layers.now.lower.catalogue) (R.Rule.finding rule.now) (held (store_of B.Store.usable B.Layer.settings layers.now.upper.upper)) (held (store_of F.Store.usable F.Layer.settings layers.now.upper.lower))) }
@@ -54,7 +54,7 @@ impl<B: Store, F: Store, R: Rule> Receiver<B, F, R> {
                 upper: bbr,
                 lower: flash,
             },
-            lower: CatalogueDefaults::new(entries),
+            lower: Defaults::new(entries),
         };
         let ram = first_ram(shut, &layers, &rule);
         Receiver {

@@ -13,7 +13,7 @@ use super::Receiver;
 use super::meaning::Meaning;
 use layer::{Layer, Stack, Store};
 use rule::Rule;
-use store::{CatalogueDefaults, SlotTable};
+use store::{Defaults, SlotTable};
 
 // A layer, lent to be read.
 #[derive(Clone, Copy)]
@@ -21,7 +21,7 @@ pub(crate) enum NamedLayer<'a, B: Store, F: Store> {
     Ram(&'a SlotTable),
     Bbr(&'a B),
     Flash(&'a F),
-    Defaults(&'a CatalogueDefaults),
+    Defaults(&'a Defaults),
 }
 
 impl<'a, B: Store, F: Store> Layer for NamedLayer<'a, B, F> {
