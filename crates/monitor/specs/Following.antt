@@ -7,7 +7,6 @@ use Rattle.frame.specs.declared.scanner.Heard.{Heard}
 use Rattle.frame.specs.Meaning.{hearing_of}
 use Rattle.monitor.specs.declared.row.Counts.{Counts}
 use Rattle.monitor.specs.declared.row.Row.{Row}
-use Rattle.monitor.specs.declared.state.Monitor.{Monitor}
 use Rattle.monitor.specs.declared.state.calls.Brought.{Brought}
 use Rattle.monitor.specs.declared.state.calls.FeedFault.{FeedFault}
 use Rattle.monitor.specs.declared.state.calls.FeedFault.TheVariants.{LineTooLong, NoMemory}
@@ -18,9 +17,6 @@ pub record Progress : Type 0 where
   pub held : List ℕ
   pub frames : ℕ
   pub noise : ℕ
-
-abbrev pub progress_of : Monitor → Progress
-progress_of m = record { place = m.place; held = vec_items m.held; frames = m.frames; noise = m.noise }
 
 abbrev pub counts_of : Progress → Counts
 counts_of p = record { frames = p.frames; noise = p.noise; held = length p.held }

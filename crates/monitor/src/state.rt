@@ -1,5 +1,5 @@
 // What a monitor has of a line: the bytes at its end that are still undecided, the place of the first of them, and what it counted before.
-ghost use Rattle.std.specs.Prelude.{◌≤◌};
+use std::marker::Model;
 
 pub mod calls;
 
@@ -9,7 +9,16 @@ pub struct Monitor {
     place: u64,
     frames: u64,
     noise: u64,
-    // what is counted lies before the place, so no count runs over before the place does
-    ghost few_frames: { frames ≤ place },
-    ghost few_noise: { noise ≤ place },
+}
+
+// Callers see the progress along the line. What is counted lies before the place, so no count runs over before the place does.
+impl Model for Monitor {
+    ghost use Rattle.std.specs.Prelude.{◌≤◌};
+    ghost use Rattle.monitor.specs.Following.{Progress};
+
+    ghost Value = { Progress };
+
+    ghost view = { λ m. record { place = m.place; held = m.held.items; frames = m.frames; noise = m.noise } };
+
+    ghost invariant = { λ m. (m.frames ≤ m.place) × (m.noise ≤ m.place) };
 }

@@ -1,6 +1,6 @@
 // Feeding a monitor, and asking for its counts.
 ghost use Rattle.std.specs.Prelude.{◌≡◌, ◌+◌, ◌^◌, ◌<◌, ◌≤◌, [], ◌++◌, map, length, IfOk, vec_len};
-ghost use Rattle.monitor.specs.Following.{progress_of, counts_of, reached, row_at, Placed, line_length, Brings, passed, Fed, Follows};
+ghost use Rattle.monitor.specs.Following.{counts_of, reached, row_at, Placed, line_length, Brings, passed, Fed, Follows};
 ghost use Rattle.monitor.specs.declared.state.calls.FeedFault.TheVariants.{NoMemory};
 
 use super::Monitor;
@@ -73,7 +73,7 @@ struct Brought {
 impl Monitor {
     // A monitor of a line on which nothing has come yet.
     pub fn new(heap: Global) -> Monitor
-        ensures { progress_of result ≡ reached [] }
+        ensures { result ≡ reached [] }
     {
         Monitor {
             held: Vec::new(heap),
@@ -85,8 +85,8 @@ impl Monitor {
 
     // Takes the next piece of the line, of any length; answers the rows of the frames that are heard with it.
     pub fn feed(&mut self, heap: Global, piece: &[u8]) -> Result<Vec<Row>, FeedFault>
-        ensures value { Fed (progress_of self.old) piece.now (progress_of self.new) result }
-        ensures line { Follows (progress_of self.old) piece.now (progress_of self.new) result }
+        ensures value { Fed self.old piece.now self.new result }
+        ensures line { Follows self.old piece.now self.new result }
     {
         self.place
             .checked_add(self.held.len() as u64)
@@ -98,8 +98,8 @@ impl Monitor {
 
     // What one more piece brings, with the undecided bytes before it.
     fn bring(&self, heap: Global, piece: &[u8]) -> Result<Brought, AllocError>
-        requires { line_length (progress_of self.now) piece.now < 2 ^ 64 }
-        ensures { IfOk result (λ b. Brings self.now.place (self.now.held.items ++ piece.now) b) }
+        requires { line_length self.now piece.now < 2 ^ 64 }
+        ensures { IfOk result (λ b. Brings self.now.place (self.now.held ++ piece.now) b) }
     {
         let mut bytes = Vec::from_slice(heap, &self.held)?;
         bytes.extend_from_slice(piece)?;
@@ -116,7 +116,9 @@ impl Monitor {
 
     // The counts so far.
     pub fn counts(&self) -> Counts
-        ensures { result ≡ counts_of (progress_of self.now) }
+        ensures value { result ≡ counts_of self.now }
+        ensures few_frames { self.now.frames ≤ self.now.place }
+        ensures few_noise { self.now.noise ≤ self.now.place }
     {
         Counts {
             frames: self.frames,
@@ -127,9 +129,11 @@ impl Monitor {
 
     // Goes on to the undecided bytes that a piece left.
     fn pass(&mut self, brought: Brought) -> Vec<Row>
-        requires { (self.old.place + brought.decided < 2 ^ 64) × ((vec_len brought.rows ≤ brought.decided) × (brought.noise ≤ brought.decided)) }
+        requires fits { self.old.place + brought.decided < 2 ^ 64 }
+        requires few_rows { vec_len brought.rows ≤ brought.decided }
+        requires few_noise { brought.noise ≤ brought.decided }
         ensures rows { result ≡ brought.rows }
-        ensures after { progress_of self.new ≡ passed (progress_of self.old) brought }
+        ensures after { self.new ≡ passed self.old brought }
     {
         let Brought {
             rows,
