@@ -67,6 +67,7 @@ impl CatalogueFault {
     }
 
     // The entry at fault; 0 where it is none in particular.
+    // kept: no Option, since `number` already says whether there is one, and callers print the entry beside it
     pub fn entry(self) -> usize
         ensures { result ≡ fault_entry self }
     {

@@ -4,6 +4,7 @@ use Rattle.std.proofs.Common.{sym, ap, subst, ◌∙◌, ⊎_elim, arith}
 use Rattle.std.specs.Option.{option_or, option_map}
 use Rattle.std.specs.List.{position_or_len}
 use Rattle.std.proofs.lemmas.List.{length-set, get_or-set_same, get_or-set_other, set_past}
+use Rattle.std.proofs.lemmas.Option.{none-some}
 use Rattle.std.proofs.lemmas.Bool.{and_parts, and_right, ltb-true, cond-true, cond-false, cases_eq, cases_lt, ne_eqb, true≢false}
 use Rattle.catalogue.specs.declared.entries.CatalogueFault.{CatalogueFault}
 use Rattle.catalogue.specs.declared.entries.CatalogueFault.TheVariants.{EntryCount}
@@ -13,14 +14,11 @@ use Rattle.catalogue.proofs.Catalogues.{listed_from}
 use Rattle.rule.specs.declared.need.Need.{Need}
 use Rattle.rule.specs.Rules.{Finding, NamesPlaces, outside, ranges, DefaultsFit, items, is_broken, first_broken, Eases, both_find}
 
-none≢some : (i : ℕ) → None ≢ Some i
-none≢some i e = let z : ◌≡◌ {A = ℕ} 0 1 = cc in omega arith
-
 -- Ranges
 
 outside_place : (place : ℕ) (es : List Entry) (vs : List ℕ) (i : ℕ) → outside place es vs ≡ Some i → i < place + length es
-outside_place place [] vs i e = absurd (none≢some i e)
-outside_place place (x ∷ es) [] i e = absurd (none≢some i e)
+outside_place place [] vs i e = absurd (none-some i e)
+outside_place place (x ∷ es) [] i e = absurd (none-some i e)
 outside_place place (x ∷ es) (v ∷ vs) i e = go (allows x v) (outside_place (suc place) es vs i) e
   where
     go : (b : Bool) → (outside (suc place) es vs ≡ Some i → i < suc place + length es) → cond b (outside (suc place) es vs) (Some place) ≡ Some i → i < place + suc (length es)
@@ -86,7 +84,7 @@ broken_place : (es : List Entry) (vs : List ℕ) (n : Need) → is_broken es vs 
 broken_place es vs n e = omega (arith, ltb-true n.first (items es vs) (and_parts _ _ e).0)
 
 pub needs_places : (ns : List Need) → NamesPlaces (first_broken ns)
-needs_places [] es vs i e = absurd (none≢some i e)
+needs_places [] es vs i e = absurd (none-some i e)
 needs_places (n ∷ ns) es vs i e = go (is_broken es vs n) refl (needs_places ns es vs i) e
   where
     go : (b : Bool) → is_broken es vs n ≡ b → (first_broken ns es vs ≡ Some i → i < length es) → cond b (Some n.first) (first_broken ns es vs) ≡ Some i → i < length es
@@ -132,7 +130,7 @@ eases (n ∷ ns) es vs i v others some e = go (is_broken es vs n) refl (eases ns
   where
     go : (b : Bool) → is_broken es vs n ≡ b → (first_broken ns es vs ≡ None → first_broken ns es (slice_set vs i v) ≡ None)
         → cond b (Some n.first) (first_broken ns es vs) ≡ None → first_broken (n ∷ ns) es (slice_set vs i v) ≡ None
-    go true is ih h = absurd (none≢some n.first (sym h))
+    go true is ih h = absurd (none-some n.first (sym h))
     go false is ih h = cond-false _ _ _ (unbroken_set es vs n i v others.0 some is) ∙ ih h
 
 -- Both
