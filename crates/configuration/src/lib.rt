@@ -7,6 +7,9 @@
 // stacking.rt   stacking RAM
 // straying.rt   the least key that a layer holds and no item has
 // checking.rt   the check of the parts of a receiver
+//
+// kept: contracts name a store by `store_of S.Store.usable S.Layer.settings`, since a trait over Store for one shorter word is no plainer: each
+// caller would need it as a bound
 #![tactic(auto)]
 
 mod applying;

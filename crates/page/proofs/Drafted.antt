@@ -1,30 +1,22 @@
 -- Laws of a draft: its beginning, one pair more, what a key and what a number of the wire adds, and its frame.
-use Rattle.std.proofs.Common.{◌≡◌, ℕ, suc, ◌+◌, ◌-◌, ◌*◌, ◌<◌, ◌≤◌, List, [], ◌∷◌, ◌++◌, map, length, get_or, take, drop, Some, None, Ok, Err, Option, Result, sym, refl, ap, ◌∙◌, ap₂, append_assoc, append-nil, arith}
-use Rattle.std.proofs.lemmas.List.{take_all, drop_all}
+use Rattle.std.proofs.Common.{◌≡◌, ℕ, suc, ◌+◌, ◌-◌, ◌*◌, ◌<◌, ◌≤◌, Bool, true, false, cond, List, [], ◌∷◌, ◌++◌, length, get_or, take, drop, Some, None, Ok, Err, Option, Result, sym, refl, ap, ◌∙◌, ap₂, append_assoc, append-nil, arith}
+use Rattle.std.proofs.lemmas.List.{take_all, drop_all, drop_more}
 use Rattle.frame.specs.Frames.{frame_bytes, carrying}
 use Rattle.item.specs.declared.selector.Selector.{Selector}
+use Rattle.item.specs.Selectors.{names}
 use Rattle.item.specs.Values.{number}
 use Rattle.layer.specs.declared.setting.Setting.{Setting}
 use Rattle.layer.specs.Settings.{setting, value_under}
 use Rattle.catalogue.specs.declared.entries.Entry.{Entry}
-use Rattle.catalogue.specs.Catalogues.{blank, named_from}
 use Rattle.reference.specs.declared.refusal.Refusal.{Refusal}
 use Rattle.reference.specs.Requests.{configuration_class, valget, ok_map, keys_named, keys_of}
 use Rattle.reference.specs.Receiver.{pair_under, held_pairs, pair_bytes, pairs_bytes, position_of, page_pairs, page}
 use Rattle.page.specs.declared.draft.Draft.{Draft}
 use Rattle.page.specs.Drafts.{payload_of, finished, finished_by}
 use Rattle.page.specs.Pages.{page_frame}
-use Rattle.page.specs.Walks.{keys_from}
-use Rattle.page.proofs.Named.{key_at, keys_named_lem}
+use Rattle.page.specs.Walks.{keys_behind}
 
 -- The beginning
-
-pub head_is : (v : ℕ) (p : List ℕ) → 4 ≤ length p → v ∷ get_or p 1 0 ∷ get_or p 2 0 ∷ get_or p 3 0 ∷ [] ≡ v ∷ take 3 (drop 1 p)
-head_is v [] le = absurd (omega arith)
-head_is v (a ∷ []) le = absurd (omega arith)
-head_is v (a ∷ b ∷ []) le = absurd (omega arith)
-head_is v (a ∷ b ∷ c ∷ []) le = absurd (omega arith)
-head_is v (a ∷ b ∷ c ∷ d ∷ p) le = refl
 
 pub position_is : (p : List ℕ) → 4 ≤ length p → get_or p 2 0 + 256 * get_or p 3 0 ≡ position_of p
 unfolding number
@@ -78,18 +70,28 @@ pub held_none : (ss : List Setting) (k : ℕ) (d : Draft) → None ≡ value_und
 unfolding held_pairs
 held_none ss k d h ks = ap (λ (o : Option ℕ). finished d (pair_under k o (held_pairs ss ks))) h
 
--- What a number of the wire adds, item by item
+-- What a number of the wire adds, entry by entry
 
-pub named_more : (ss : List Setting) (es : List Entry) (s : Selector) (from i : ℕ) (d e : Draft) → named_from s from es ≡ i ∷ named_from s (i + 1) es
-    → ((ks : List ℕ) → finished_by ss e ks ≡ finished_by ss d ((get_or es i blank).key ∷ ks))
-    → (ks : List ℕ) → finished_by ss e (keys_named s (drop (i + 1) es) ++ ks) ≡ finished_by ss d (keys_named s (drop from es) ++ ks)
-named_more ss es s from i d e h step ks =
-    let keys : keys_named s (drop from es) ≡ key_at es i ∷ keys_named s (drop (i + 1) es) =
-    keys_named_lem s es from ∙ ap (map (key_at es)) h ∙ ap (λ (js : List ℕ). key_at es i ∷ js) (sym (keys_named_lem s es (i + 1))) in
-    step (keys_named s (drop (i + 1) es) ++ ks) ∙ ap (λ (js : List ℕ). finished_by ss d (js ++ ks)) (sym keys)
+module _ (ss : List Setting) (es : List Entry) (s : Selector) (i : ℕ) (x : Entry) (lt : i < length es) where
+  named_at : (d : Draft) (ks : List ℕ) → finished_by ss d (cond (names s (get_or es i x).key) ((get_or es i x).key ∷ keys_named s (drop (i + 1) es)) (keys_named s (drop (i + 1) es)) ++ ks)
+      ≡ finished_by ss d (keys_named s (drop i es) ++ ks)
+  unfolding keys_named
+  named_at d ks = ap (λ (l : List Entry). finished_by ss d (keys_named s l ++ ks)) (sym (drop_more es i x lt))
 
-pub named_all : (ss : List Setting) (es : List Entry) (s : Selector) (from : ℕ) (d : Draft) → named_from s from es ≡ [] → (ks : List ℕ) → finished_by ss d ks ≡ finished_by ss d (keys_named s (drop from es) ++ ks)
-named_all ss es s from d h ks = ap (λ (js : List ℕ). finished_by ss d (js ++ ks)) (sym (keys_named_lem s es from ∙ ap (map (key_at es)) h))
+  pub named_more : (d e : Draft) → true ≡ names s (get_or es i x).key → ((ks : List ℕ) → finished_by ss e ks ≡ finished_by ss d ((get_or es i x).key ∷ ks))
+      → (ks : List ℕ) → finished_by ss e (keys_named s (drop (i + 1) es) ++ ks) ≡ finished_by ss d (keys_named s (drop i es) ++ ks)
+  named_more d e is step ks =
+      step (keys_named s (drop (i + 1) es) ++ ks)
+      ∙ ap (λ (b : Bool). finished_by ss d (cond b ((get_or es i x).key ∷ keys_named s (drop (i + 1) es)) (keys_named s (drop (i + 1) es)) ++ ks)) is
+      ∙ named_at d ks
+
+  pub named_less : (d : Draft) → false ≡ names s (get_or es i x).key → (ks : List ℕ) → finished_by ss d (keys_named s (drop (i + 1) es) ++ ks) ≡ finished_by ss d (keys_named s (drop i es) ++ ks)
+  named_less d is ks =
+      ap (λ (b : Bool). finished_by ss d (cond b ((get_or es i x).key ∷ keys_named s (drop (i + 1) es)) (keys_named s (drop (i + 1) es)) ++ ks)) is ∙ named_at d ks
+
+pub named_end : (ss : List Setting) (es : List Entry) (s : Selector) (i : ℕ) (d : Draft) → length es ≤ i → (ks : List ℕ) → finished_by ss d ks ≡ finished_by ss d (keys_named s (drop i es) ++ ks)
+unfolding keys_named
+named_end ss es s i d done ks = ap (λ (l : List Entry). finished_by ss d (keys_named s l ++ ks)) (sym (drop_all i es done))
 
 -- The frame
 
@@ -101,15 +103,22 @@ same_made : {A : Type 0} (f g : List ℕ → A) (r : Result (List ℕ) Refusal) 
 same_made f g (Ok ks) h = ap Ok (h ks)
 same_made f g (Err e) h = refl
 
-pub frames_start : (es : List Entry) (ss : List Setting) (p : List ℕ) (d : Draft) → payload_of d ≡ 1 ∷ take 3 (drop 1 p) → d.skip ≡ position_of p → d.left ≡ 64
-    → ok_map (frame_by ss d) (keys_from es 64 4 p) ≡ ok_map (page_frame ss p) (keys_of es p)
+pub frames_start : (es : List Entry) (ss : List Setting) (p bs : List ℕ) (d : Draft) (n : ℕ) → payload_of d ≡ 1 ∷ take 3 (drop 1 p) → d.skip ≡ position_of p → d.left ≡ 64
+    → n ≡ 0 → bs ≡ drop 4 p → ok_map (frame_by ss d) (keys_behind es n bs) ≡ ok_map (page_frame ss p) (keys_of es p)
 unfolding keys_of page finished
-frames_start es ss p d head skip left =
-    same_made (frame_by ss d) (page_frame ss p) (keys_of es p)
+frames_start es ss p bs d n head skip left none rest =
+    ap₂ (λ (m : ℕ) (l : List ℕ). ok_map (frame_by ss d) (keys_behind es m l)) none rest
+    ∙ same_made (frame_by ss d) (page_frame ss p) (keys_of es p)
     (λ ks.
     let pairs : pairs_bytes (take d.left (drop d.skip (held_pairs ss ks))) ≡ pairs_bytes (page_pairs (position_of p) (held_pairs ss ks)) =
     ap₂ (λ (m n : ℕ). pairs_bytes (take m (drop n (held_pairs ss ks)))) left skip in
     ap (λ (bs : List ℕ). frame_bytes (carrying configuration_class valget bs)) (ap₂ (λ (a b : List ℕ). a ++ b) head pairs))
+
+-- a number's keys are added
+pub frame_named : (es fs : List Entry) (ss : List Setting) (s : Selector) (d e : Draft) → fs ≡ es → ((ks : List ℕ) → finished_by ss e ks ≡ finished_by ss d (keys_named s fs ++ ks))
+    → (ks : List ℕ) → frame_by ss e ks ≡ frame_by ss d (keys_named s es ++ ks)
+frame_named es fs ss s d e same step ks =
+    ap (λ (bs : List ℕ). frame_bytes (carrying configuration_class valget bs)) (step ks ∙ ap (λ (l : List Entry). finished_by ss d (keys_named s l ++ ks)) same)
 
 pub frame_end : (ss : List Setting) (d : Draft) → frame_bytes (carrying configuration_class valget (payload_of d)) ≡ frame_by ss d []
 unfolding held_pairs

@@ -1,29 +1,26 @@
--- The keys that a selector names, by the places of their items.
-use Rattle.std.proofs.Common.{◌≡◌, ℕ, suc, ◌+◌, ◌-◌, Bool, true, false, cond, List, [], ◌∷◌, map, length, get_or, drop, sym, refl, ap, ◌∙◌, ap₂, arith}
-use Rattle.std.proofs.lemmas.List.{drop_more, length-drop}
+-- The keys that a selector names: there are some where it names an item's place.
+use Rattle.std.proofs.Common.{◌≡◌, ℕ, suc, Bool, true, false, cond, List, [], ◌∷◌, refl}
 use Rattle.item.specs.declared.selector.Selector.{Selector}
 use Rattle.item.specs.Selectors.{names}
 use Rattle.catalogue.specs.declared.entries.Entry.{Entry}
-use Rattle.catalogue.specs.Catalogues.{blank, named, named_from}
+use Rattle.catalogue.specs.Catalogues.{named}
 use Rattle.reference.specs.Requests.{keys_named}
 
-abbrev pub key_at : List Entry → ℕ → ℕ
-key_at es i = (get_or es i blank).key
-
-map_if : (f : ℕ → ℕ) (b : Bool) (k i : ℕ) (ks is : List ℕ) → f i ≡ k → ks ≡ map f is → cond b (k ∷ ks) ks ≡ map f (cond b (i ∷ is) is)
-map_if f true k i ks is e h = ap₂ (λ (x : ℕ) (xs : List ℕ). x ∷ xs) (sym e) h
-map_if f false k i ks is e h = h
-
-keys_from_lem : (s : Selector) (es xs : List Entry) (from : ℕ) → drop from es ≡ xs → keys_named s xs ≡ map (key_at es) (named s from xs)
+pub named_none : (s : Selector) (place : ℕ) (es : List Entry) → named s place es ≡ [] → keys_named s es ≡ []
 unfolding keys_named
-keys_from_lem s es [] from e = refl
-keys_from_lem s es (x ∷ xs) from e =
-    let long : length es - from ≡ suc (length xs) = sym (length-drop from es) ∙ ap length e in
-    let both : get_or es from blank ∷ drop (from + 1) es ≡ x ∷ xs = sym (drop_more es from blank (omega arith)) ∙ e in
-    let head : get_or es from blank ≡ x = cc in
-    let tail : drop (from + 1) es ≡ xs = cc in
-    let next : from + 1 ≡ suc from = omega arith in
-    map_if (key_at es) (names s x.key) x.key from _ _ (ap (λ (y : Entry). y.key) head) (keys_from_lem s es xs (suc from) (rw next at tail))
+named_none s place [] e = refl
+named_none s place (x ∷ xs) e = go (names s x.key) (named_none s (suc place) xs) e
+  where
+    go : (b : Bool) → (named s (suc place) xs ≡ [] → keys_named s xs ≡ []) → cond b (place ∷ named s (suc place) xs) (named s (suc place) xs) ≡ [] → cond b (x.key ∷ keys_named s xs) (keys_named s xs) ≡ []
+    go true ih h = absurd (cc)
+    go false ih h = ih h
 
-pub keys_named_lem : (s : Selector) (es : List Entry) (from : ℕ) → keys_named s (drop from es) ≡ map (key_at es) (named_from s from es)
-keys_named_lem s es from = keys_from_lem s es (drop from es) from refl
+pub named_some : (s : Selector) (place i : ℕ) (es : List Entry) (is : List ℕ) → named s place es ≡ i ∷ is → (k : ℕ) × (ks : List ℕ) × (keys_named s es ≡ k ∷ ks)
+unfolding keys_named
+named_some s place i [] is e = absurd (cc)
+named_some s place i (x ∷ xs) is e = go (names s x.key) (named_some s (suc place) i xs is) e
+  where
+    go : (b : Bool) → (named s (suc place) xs ≡ i ∷ is → (k : ℕ) × (ks : List ℕ) × (keys_named s xs ≡ k ∷ ks)) → cond b (place ∷ named s (suc place) xs) (named s (suc place) xs) ≡ i ∷ is
+        → (k : ℕ) × (ks : List ℕ) × (cond b (x.key ∷ keys_named s xs) (keys_named s xs) ≡ k ∷ ks)
+    go true ih h = (x.key, keys_named s xs, refl)
+    go false ih h = ih h

@@ -1,7 +1,8 @@
 -- A pair's bytes: key and value, one written behind the other.
-use Rattle.std.proofs.Common.{◌≡◌, ℕ, ◌+◌, ◌≤◌, true, List, ◌++◌, length, take, drop, Some, None, Option, sym, ap, ◌∙◌, ap₂, append_assoc, arith}
+use Rattle.std.proofs.Common.{◌≡◌, ℕ, ◌+◌, ◌≤◌, true, List, ◌++◌, length, take, drop, Some, None, Option, sym, refl, ap, ◌∙◌, ap₂, append_assoc, arith}
 use Rattle.std.proofs.lemmas.Bool.Decides.{nat_tests}
 use Rattle.std.proofs.lemmas.List.{length-append, length-take-le, take_at}
+use Rattle.std.specs.Option.{IsSome}
 use Rattle.frame.specs.Written.{patched}
 use Rattle.frame.proofs.Written.{patched_append}
 use Rattle.item.specs.declared.key.Size.{Size}
@@ -17,9 +18,10 @@ pub value_fits : (k v : ℕ) (s : Size) → is_setting k v ≡ true → Some s �
 unfolding is_setting
 value_fits k v s h e = grind (arith, nat_tests)
 
-pub has_size : (k v : ℕ) → is_setting k v ≡ true → None ≡ size_of k → ⊥
+pub has_size : (k v : ℕ) (o : Option Size) → is_setting k v ≡ true → o ≡ size_of k → IsSome o
 unfolding is_setting
-has_size k v h e = grind (arith, nat_tests)
+has_size k v None h e = absurd (grind (arith, nat_tests))
+has_size k v (Some s) h e = refl
 
 pub width_few : (s : Size) → width_of s ≤ 8
 width_few Bit = omega arith

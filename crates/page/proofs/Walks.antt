@@ -1,21 +1,25 @@
 -- The walk over the keys and selectors of a get, one entry further and at its end.
-use Rattle.std.proofs.Common.{◌≡◌, ℕ, zero, suc, ◌+◌, ◌-◌, ◌<◌, ◌≤◌, List, [], ◌∷◌, ◌++◌, map, length, take, drop, Some, None, Ok, Err, sym, refl, ap, ◌∙◌, arith}
+use Rattle.std.proofs.Common.{◌≡◌, ℕ, zero, suc, ◌+◌, ◌-◌, ◌*◌, ◌<◌, ◌≤◌, min, List, [], ◌∷◌, ◌++◌, length, drop, Some, None, Ok, Err, Result, sym, refl, ap, ◌∙◌, ap₂, arith}
 use Rattle.std.proofs.lemmas.Bool.Decides.{nat_tests}
-use Rattle.std.proofs.lemmas.List.{drop_more, drop_all, drop-drop, length-drop, take_rest}
+use Rattle.std.proofs.lemmas.List.{length-append, take-append-le}
+use Rattle.std.proofs.Math.Seq.{drop-append_seam}
 use Rattle.item.specs.Selectors.{selector_of}
 use Rattle.catalogue.specs.declared.entries.Entry.{Entry}
 use Rattle.catalogue.specs.Catalogues.{named_from}
+use Rattle.reference.specs.declared.refusal.Refusal.{Refusal}
 use Rattle.reference.specs.declared.refusal.Refusal.TheVariants.{TooManyEntries, CutEntry, UnknownKey}
 use Rattle.reference.specs.Requests.{ok_map, keys_named, Read, cut, unknown, read, named_read, key_read, walking, walk, keys_of}
 use Rattle.request.specs.Keys.{key_in}
-use Rattle.page.specs.Walks.{keys_from, NextNumber}
-use Rattle.page.proofs.Named.{key_at, keys_named_lem}
+use Rattle.page.specs.Walks.{keys_behind, EntryRead}
+use Rattle.page.proofs.Named.{named_none, named_some}
 
 -- One entry
 
-pub number_many : (es : List Entry) (left place : ℕ) (p : List ℕ) → left ≡ 0 → place < length p → keys_from es left place p ≡ Err (TooManyEntries place)
+pub entry_many : (es : List Entry) (before : ℕ) (bs rest : List ℕ) → before ≡ 64 → 0 < length bs → keys_behind es before (bs ++ rest) ≡ Err (TooManyEntries (4 + 4 * before))
 unfolding walk
-number_many es left place p e lt = rw e (ap (walk (key_read es) 0 place) (drop_more p place 0 lt))
+entry_many es before [] rest e lt = absurd (omega arith)
+entry_many es before (b ∷ bs) rest e lt =
+    let none : 64 - before ≡ 0 = omega arith in ap (λ left. walk (key_read es) left (4 + 4 * before) (b ∷ (bs ++ rest))) none
 
 walk_one : (es : List Entry) (n place : ℕ) (bs : List ℕ) (r : Read (List ℕ)) → 0 < length bs → key_read es bs ≡ r
     → walk (key_read es) (suc n) place bs ≡ walking r place (λ (k : ℕ). walk (key_read es) n (place + k) (drop k bs))
@@ -23,42 +27,73 @@ unfolding walk
 walk_one es n place [] r lt e = absurd (omega arith)
 walk_one es n place (b ∷ bs) r lt e = ap (λ (x : Read (List ℕ)). walking x place (λ (k : ℕ). walk (key_read es) n (place + k) (drop k (b ∷ bs)))) e
 
-module _ (es : List Entry) (left place : ℕ) (p : List ℕ) (some : left ≡ 0 → ⊥) (lt : place < length p) where
-  number_as : (r : Read (List ℕ)) → key_read es (drop place p) ≡ r → keys_from es left place p ≡ walking r place (λ (k : ℕ). walk (key_read es) (left - 1) (place + k) (drop k (drop place p)))
-  number_as r e =
-      let back : suc (left - 1) ≡ left = omega arith in
-      let long : 0 < length (drop place p) = simp length-drop (omega arith) in
-      rw back at (walk_one es (left - 1) place (drop place p) r long e)
+module _ (es : List Entry) (before : ℕ) (bs rest : List ℕ) (few : before ≤ 64) (room : before ≡ 64 → ⊥) (some : 0 < length bs) where
+  entry_as : (r : Read (List ℕ)) → key_read es (bs ++ rest) ≡ r
+      → keys_behind es before (bs ++ rest) ≡ walking r (4 + 4 * before) (λ (k : ℕ). walk (key_read es) (64 - (before + 1)) (4 + 4 * before + k) (drop k (bs ++ rest)))
+  entry_as r e =
+      let back : 64 - before ≡ suc (64 - (before + 1)) = omega arith in
+      let long : 0 < length (bs ++ rest) = simp length-append (omega arith) in
+      rw back (walk_one es (64 - (before + 1)) (4 + 4 * before) (bs ++ rest) r long e)
 
-  pub number_cut : None ≡ key_in (take (length p - place) (drop place p)) → keys_from es left place p ≡ Err (CutEntry place)
+  pub entry_cut : length bs ≡ min 4 (length (bs ++ rest)) → None ≡ key_in bs → keys_behind es before (bs ++ rest) ≡ Err (CutEntry (4 + 4 * before))
   unfolding key_read walking
-  number_cut e =
-      let rest = rw take_rest at e in
-      let is : key_read es (drop place p) ≡ cut = grind (arith, nat_tests) in
-      number_as cut is
+  entry_cut whole e =
+      let is : key_read es (bs ++ rest) ≡ cut = grind (arith, nat_tests) in
+      entry_as cut is
 
-  module _ (n : ℕ) (e : Some n ≡ key_in (take (length p - place) (drop place p))) where
-    read_as : key_read es (drop place p) ≡ named_read (keys_named (selector_of n) es)
+  module _ (n : ℕ) (e : Some n ≡ key_in bs) where
+    read_as : key_read es (bs ++ rest) ≡ named_read (keys_named (selector_of n) es)
     unfolding key_read
-    read_as = let rest = rw take_rest at e in grind (arith, nat_tests)
+    read_as =
+        let long : 4 ≤ length bs = grind (arith, nat_tests) in
+        let len = length-append bs rest in
+        let front = take-append-le 4 bs rest long in
+        grind (arith, nat_tests)
 
-    pub number_unknown : named_from (selector_of n) 0 es ≡ [] → keys_from es left place p ≡ Err (UnknownKey place)
+    pub entry_unknown : named_from (selector_of n) 0 es ≡ [] → keys_behind es before (bs ++ rest) ≡ Err (UnknownKey (4 + 4 * before))
     unfolding walking
-    number_unknown h = number_as unknown (read_as ∙ ap named_read (keys_named_lem (selector_of n) es 0 ∙ ap (map (key_at es)) h))
+    entry_unknown h = entry_as unknown (read_as ∙ ap named_read (named_none (selector_of n) 0 es h))
 
-    pub number_known : (i : ℕ) (is : List ℕ) → named_from (selector_of n) 0 es ≡ i ∷ is → NextNumber es left place p (Ok n)
+    pub entry_known : (i : ℕ) (is : List ℕ) → length bs ≡ min 4 (length (bs ++ rest)) → named_from (selector_of n) 0 es ≡ i ∷ is
+        → keys_behind es before (bs ++ rest) ≡ ok_map (◌++◌ (keys_named (selector_of n) es)) (keys_behind es (before + 1) rest)
     unfolding walking
-    number_known i is h =
-        let some_key : keys_named (selector_of n) es ≡ key_at es i ∷ map (key_at es) is = keys_named_lem (selector_of n) es 0 ∙ ap (map (key_at es)) h in
-        let known : named_read (keys_named (selector_of n) es) ≡ read 4 (keys_named (selector_of n) es) = ap named_read some_key ∙ ap (read 4) (sym some_key) in
-        let rest = rw take_rest at e in
-        let len = length-drop place p in
-        let long : 4 ≤ length (drop place p) = grind (arith, nat_tests) in
-        (omega arith, omega arith, number_as _ (read_as ∙ known) ∙ ap (λ (bs : List ℕ). ok_map (◌++◌ (keys_named (selector_of n) es)) (walk (key_read es) (left - 1) (place + 4) bs)) (drop-drop 4 place p))
+    entry_known i is whole h =
+        let some_key = named_some (selector_of n) 0 i es is h in
+        let known : named_read (keys_named (selector_of n) es) ≡ read 4 (keys_named (selector_of n) es) = ap named_read some_key.2 ∙ ap (read 4) (sym some_key.2) in
+        let four : length bs ≡ 4 = grind (arith, nat_tests) in
+        entry_as _ (read_as ∙ known)
+        ∙ ap₂ (λ (place : ℕ) (l : List ℕ). ok_map (◌++◌ (keys_named (selector_of n) es)) (walk (key_read es) (64 - (before + 1)) place l)) (omega arith) (ap (λ (k : ℕ). drop k (bs ++ rest)) (sym four) ∙ drop-append_seam bs rest)
+
+-- The next piece of what is left, as the entry at its front was read
+
+module _ (es : List Entry) (n m size : ℕ) (all bs rest : List ℕ) (is : all ≡ bs ++ rest) (whole : length bs ≡ min size (length all)) (four : size ≡ 4) (some : 0 < length all) (at : m ≡ n) where
+  front : 0 < length bs
+  front = grind arith
+
+  piece : length bs ≡ min 4 (length (bs ++ rest))
+  piece = whole ∙ ap₂ (λ (a : ℕ) (l : List ℕ). min a (length l)) four is
+
+  here : keys_behind es n all ≡ keys_behind es m (bs ++ rest)
+  here = ap₂ (λ (a : ℕ) (l : List ℕ). keys_behind es a l) (sym at) is
+
+  module _ {A : Type 0} (f : List ℕ → A) where
+    pub keys_stop : (e : Refusal) → EntryRead es m bs (Err e) → Err e ≡ ok_map f (keys_behind es n all)
+    keys_stop e refused = sym (ap (ok_map f) (here ∙ refused rest front piece))
+
+    same_made : (g : List ℕ → A) (ks : List ℕ) (r : Result (List ℕ) Refusal) → ((js : List ℕ) → g js ≡ f (ks ++ js)) → ok_map g r ≡ ok_map f (ok_map (◌++◌ ks) r)
+    same_made g ks (Ok js) same = ap Ok (same js)
+    same_made g ks (Err e) same = refl
+
+    pub keys_on : (k next : ℕ) (g : List ℕ → A) → next ≡ n + 1 → EntryRead es m bs (Ok k) → ((js : List ℕ) → g js ≡ f (keys_named (selector_of k) es ++ js))
+        → ok_map g (keys_behind es next rest) ≡ ok_map f (keys_behind es n all)
+    keys_on k next g more told same =
+        ap (λ (a : ℕ). ok_map g (keys_behind es a rest)) (more ∙ ap (λ (a : ℕ). a + 1) (sym at))
+        ∙ same_made g (keys_named (selector_of k) es) (keys_behind es (m + 1) rest) same
+        ∙ sym (ap (ok_map f) (here ∙ told.1 rest front piece))
 
 -- The beginning and the end
 
-pub keys_start : (es : List Entry) (p : List ℕ) → keys_from es 64 4 p ≡ keys_of es p
+pub keys_start : (es : List Entry) (p : List ℕ) → keys_behind es 0 (drop 4 p) ≡ keys_of es p
 unfolding keys_of
 keys_start es p = refl
 
@@ -67,5 +102,6 @@ unfolding walk
 walk_none es zero place = refl
 walk_none es (suc n) place = refl
 
-pub keys_end : (es : List Entry) (left place : ℕ) (p : List ℕ) → length p ≤ place → keys_from es left place p ≡ Ok []
-keys_end es left place p le = ap (walk (key_read es) left place) (drop_all place p le) ∙ walk_none es left place
+pub keys_end : (es : List Entry) (before : ℕ) (bs : List ℕ) → length bs ≡ 0 → keys_behind es before bs ≡ Ok []
+keys_end es before [] e = walk_none es (64 - before) (4 + 4 * before)
+keys_end es before (b ∷ bs) e = absurd (omega arith)

@@ -8,8 +8,8 @@ use Rattle.reference.specs.declared.refusal.Refusal.{Refusal}
 use Rattle.reference.specs.declared.refusal.Refusal.TheVariants.{ShortPayload}
 use Rattle.reference.specs.Requests.{ok_map, keys_of}
 use Rattle.reference.specs.Receiver.{page}
-use Rattle.page.specs.declared.answer.Page.{Page}
-use Rattle.page.specs.declared.answer.Page.TheVariants.{Written, Refused, NoRoom}
+use Rattle.page.specs.declared.answer.PageFault.{PageFault}
+use Rattle.page.specs.declared.answer.PageFault.TheVariants.{Refused, NoRoom}
 
 -- the frame over these keys
 abbrev pub page_frame : List Setting → List ℕ → List ℕ → List ℕ
@@ -19,13 +19,13 @@ page_frame ss p ks = frame_bytes (page ss p ks)
 abbrev pub page_bytes : List Entry → List Setting → List ℕ → Result (List ℕ) Refusal
 page_bytes es ss p = cond (nat_lt (length p) 4) (Err ShortPayload) (ok_map (page_frame ss p) (keys_of es p))
 
-abbrev pub answered : Result (List ℕ) Refusal → Page
-answered (Ok bs) = Written (length bs)
-answered (Err r) = Refused r
+abbrev pub answered : Result (List ℕ) Refusal → Result ℕ PageFault
+answered (Ok bs) = Ok (length bs)
+answered (Err r) = Err (Refused r)
 
 -- what is answered with a buffer of so many bytes: that it has not room for every frame, before all else
-abbrev pub page_answer : ℕ → Result (List ℕ) Refusal → Page
-page_answer room r = cond (nat_lt room max_frame) NoRoom (answered r)
+abbrev pub page_answer : ℕ → Result (List ℕ) Refusal → Result ℕ PageFault
+page_answer room r = cond (nat_lt room max_frame) (Err NoRoom) (answered r)
 
 abbrev pub in_front_if_made : Result (List ℕ) Refusal → List ℕ → List ℕ
 in_front_if_made (Ok bs) old = in_front bs old

@@ -5,45 +5,56 @@ ghost use Rattle.frame.specs.Written.{in_front};
 ghost use Rattle.reference.specs.Requests.{ok_map};
 ghost use Rattle.page.specs.Drafts.{draft_frame};
 ghost use Rattle.page.specs.Pages.{page_bytes, page_answer, page_out};
+ghost use Rattle.page.specs.declared.answer.PageFault.TheVariants.{Refused};
 
 use crate::draft::Draft;
-use crate::entry::{ENTRY, HEAD, MAX_ENTRIES, next_number};
-use catalogue::{Catalogue, Entry};
+use crate::entry::{ENTRY, HEAD, entries_in, number_in};
+use catalogue::Catalogue;
 use frame::{MAX_FRAME, write_frame};
 use layer::Layer;
 use reference::Refusal;
+use request::{CONFIGURATION_CLASS, VALGET};
+use std::error::Error;
+use std::fmt;
 
-// The class of configuration frames, and the ID of VALGET.
-const CLASS: u8 = 0x06;
-
-const VALGET: u8 = 0x8b;
-
-// What writing a page answers: how many bytes its frame has, or why there is none.
-#[derive(Clone, Copy)]
-pub enum Page {
-    Written(usize),
+// Why no page was written.
+#[derive(Clone, Copy, Debug)]
+pub enum PageFault {
     Refused(Refusal),
     // the buffer has not room for every frame
     NoRoom,
 }
 
+impl From<Refusal> for PageFault {
+    ghost from_gives = { λ refusal fault. fault ≡ Refused refusal };
+
+    fn from(refusal: Refusal) -> PageFault {
+        PageFault::Refused(refusal)
+    }
+}
+
+impl fmt::Display for PageFault {
+    fn fmt<W: fmt::Write>(&self, f: &mut fmt::Formatter<W>) -> fmt::Result {
+        match self {
+            PageFault::Refused(fault) => write!(f, "{fault}"),
+            PageFault::NoRoom => f.write_str("the buffer has not room for every frame"),
+        }
+    }
+}
+
+impl Error for PageFault {}
+
 // The whole page that a request asks for.
-fn drafted<L: Layer>(entries: &[Entry], layer: &L, payload: &[u8]) -> Result<Draft, Refusal>
-    ensures { ok_map draft_frame result ≡ page_bytes entries.now (L.Layer.settings layer.now) payload.now }
+fn drafted<L: Layer>(catalogue: &Catalogue, layer: &L, payload: &[u8]) -> Result<Draft, Refusal>
+    ensures { ok_map draft_frame result ≡ page_bytes (entries_of catalogue.now) (L.Layer.settings layer.now) payload.now }
 {
     if payload.len() < HEAD {
         return Err(Refusal::ShortPayload);
     }
     let mut draft = Draft::new(payload);
-    let mut place = HEAD;
-    let mut left = MAX_ENTRIES;
-    while place < payload.len() {
-        match next_number(entries, payload, place, left) {
-            Ok(number) => draft.add_named(entries, layer, number),
-            Err(refusal) => return Err(refusal),
-        }
-        place += ENTRY;
-        left -= 1;
+    for (before, entry) in entries_in(payload).chunks(ENTRY).enumerate() {
+        let number = number_in(catalogue, entry, before)?;
+        draft.add_named(catalogue.entries(), layer, number);
     }
     Ok(draft)
 }
@@ -54,28 +65,23 @@ fn put_frame(out: &mut [u8], draft: &Draft) -> usize
     ensures value { result ≡ length (draft_frame draft.now) }
     ensures out { out.new ≡ in_front (draft_frame draft.now) out.old }
 {
-    match write_frame(out, CLASS, VALGET, draft.payload()) {
-        Ok(size) => size,
-        Err(_) => 0,
-    }
+    write_frame(out, CONFIGURATION_CLASS, VALGET, draft.payload()).unwrap()
 }
 
 // Writes the reply to a get at the start of the buffer: what the layer holds under the keys that the payload names, of which the position's
-// first are skipped and at most 64 are listed. A refusal leaves the buffer as it was.
+// first are skipped and at most 64 are listed. Answers how many bytes its frame has; a refusal leaves the buffer as it was.
 pub fn write_page<L: Layer>(
     catalogue: &Catalogue,
     layer: &L,
     payload: &[u8],
     out: &mut [u8],
-) -> Page
+) -> Result<usize, PageFault>
     ensures answer { result ≡ page_answer (length out.old) (page_bytes (entries_of catalogue.now) (L.Layer.settings layer.now) payload.now) }
     ensures out { out.new ≡ page_out (length out.old) (page_bytes (entries_of catalogue.now) (L.Layer.settings layer.now) payload.now) out.old }
 {
     if out.len() < MAX_FRAME {
-        return Page::NoRoom;
+        return Err(PageFault::NoRoom);
     }
-    match drafted(catalogue.entries(), layer, payload) {
-        Ok(draft) => Page::Written(put_frame(out, &draft)),
-        Err(refusal) => Page::Refused(refusal),
-    }
+    let draft = drafted(catalogue, layer, payload)?;
+    Ok(put_frame(out, &draft))
 }

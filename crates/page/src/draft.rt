@@ -3,6 +3,7 @@ ghost use Rattle.std.specs.Prelude.{◌≡◌, ◌+◌, ◌*◌, ◌≤◌, leng
 
 pub mod calls;
 
+// kept: an array with its length beside it, since a receiver has fixed memory and no heap once it is made
 #[derive(Drop)]
 pub struct Draft {
     bytes: [u8; 772],

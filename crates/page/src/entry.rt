@@ -1,10 +1,10 @@
 // The keys and selectors of a get, one entry after the other.
-ghost use Rattle.std.specs.Prelude.{◌≡◌, ◌<◌, length};
+ghost use Rattle.std.specs.Prelude.{◌≡◌, ◌<◌, ◌≤◌, length, drop};
 ghost use Rattle.catalogue.specs.Owned.{entries_of};
 ghost use Rattle.reference.specs.Requests.{ok_map, keys_of};
-ghost use Rattle.page.specs.Walks.{nothing, NextNumber};
+ghost use Rattle.page.specs.Walks.{nothing, EntryRead};
 
-use catalogue::{Catalogue, Entry, next_named};
+use catalogue::{Catalogue, next_named};
 use reference::Refusal;
 use request::key_at;
 
@@ -14,50 +14,39 @@ pub(crate) const HEAD: usize = 4;
 // How many bytes an entry has, and how many entries there may be.
 pub(crate) const ENTRY: usize = 4;
 
-pub(crate) const MAX_ENTRIES: usize = 64;
+const MAX_ENTRIES: usize = 64;
 
-// The key or selector at a place of the payload, where so many entries may still come.
-pub(crate) fn next_number(
-    entries: &[Entry],
-    payload: &[u8],
-    place: usize,
-    left: usize,
-) -> Result<u32, Refusal>
-    requires { place < length payload.now }
-    ensures { NextNumber entries.now left place payload.now result }
+// The key or selector of an entry with so many others before it.
+pub(crate) fn number_in(catalogue: &Catalogue, entry: &[u8], before: usize) -> Result<u32, Refusal>
+    requires { before ≤ 64 }
+    ensures { EntryRead (entries_of catalogue.now) before entry.now result }
 {
-    if left == 0 {
+    let place = HEAD + ENTRY * before;
+    if before == MAX_ENTRIES {
         return Err(Refusal::TooManyEntries(place));
     }
-    match key_at(&payload[place..]) {
-        Some(number) => match next_named(entries, number, 0) {
-            Some(_) => Ok(number),
-            None => Err(Refusal::UnknownKey(place)),
-        },
-        None => Err(Refusal::CutEntry(place)),
+    let Some(number) = key_at(entry) else {
+        return Err(Refusal::CutEntry(place));
+    };
+    match next_named(catalogue.entries(), number, 0) {
+        Some(_) => Ok(number),
+        None => Err(Refusal::UnknownKey(place)),
     }
 }
 
-// The walk over the keys and selectors.
-fn walk_keys(entries: &[Entry], payload: &[u8]) -> Result<(), Refusal>
-    ensures { result ≡ ok_map nothing (keys_of entries.now payload.now) }
+// The bytes of a get's entries: all that stand behind its head.
+pub(crate) fn entries_in(payload: &[u8]) -> &[u8]
+    ensures { result.now ≡ drop 4 payload.now }
 {
-    let mut place = HEAD;
-    let mut left = MAX_ENTRIES;
-    while place < payload.len() {
-        match next_number(entries, payload, place, left) {
-            Ok(_) => {}
-            Err(refusal) => return Err(refusal),
-        }
-        place += ENTRY;
-        left -= 1;
-    }
-    Ok(())
+    &payload[HEAD.min(payload.len())..]
 }
 
 // The check of a get's keys and selectors: at most 64 from byte 4 on, each whole, each naming an item of the catalogue.
 pub fn check_keys(catalogue: &Catalogue, payload: &[u8]) -> Result<(), Refusal>
     ensures { result ≡ ok_map nothing (keys_of (entries_of catalogue.now) payload.now) }
 {
-    walk_keys(catalogue.entries(), payload)
+    for (before, entry) in entries_in(payload).chunks(ENTRY).enumerate() {
+        number_in(catalogue, entry, before)?;
+    }
+    Ok(())
 }

@@ -11,5 +11,5 @@ mod draft;
 mod entry;
 mod pair;
 
-pub use answer::{Page, write_page};
+pub use answer::{PageFault, write_page};
 pub use entry::check_keys;

@@ -15,10 +15,7 @@ fn put_value(out: &mut [u8], place: usize, size: Size, value: u64) -> usize
     ensures out { out.new ≡ patched place (value_bytes size value) out.old }
     ensures next { result ≡ place + width_of size }
 {
-    match write_value(out, place, size, value) {
-        Ok(next) => next,
-        Err(_) => place,
-    }
+    write_value(out, place, size, value).unwrap()
 }
 
 // Writes a pair, which has at most 12 bytes; answers the place behind it.
@@ -30,8 +27,5 @@ pub(crate) fn put_pair(out: &mut [u8], place: usize, key: u32, value: u64) -> us
     ensures within { result ≤ place + 12 }
 {
     let behind = put_value(out, place, Size::Four, key as u64);
-    match size_of(key) {
-        Some(size) => put_value(out, behind, size, value),
-        None => behind,
-    }
+    put_value(out, behind, size_of(key).unwrap(), value)
 }

@@ -8,8 +8,10 @@ ghost use Rattle.reference.specs.Receiver.{pair_bytes, position_of};
 ghost use Rattle.page.specs.Drafts.{payload_of, finished, finished_by};
 
 use super::Draft;
+use crate::entry::HEAD;
 use crate::pair::put_pair;
-use catalogue::{Entry, next_named};
+use catalogue::Entry;
+use item::selector_of;
 use layer::Layer;
 
 // The version of a reply.
@@ -25,10 +27,8 @@ fn head_of(version: u8, payload: &[u8]) -> [u8; 772]
     ensures whole { length result ≡ 772 }
 {
     let mut bytes = [0u8; 772];
+    bytes[0..HEAD].copy_from_slice(&payload[0..HEAD]);
     bytes[0] = version;
-    bytes[1] = payload[1];
-    bytes[2] = payload[2];
-    bytes[3] = payload[3];
     bytes
 }
 
@@ -37,7 +37,7 @@ fn position_of(payload: &[u8]) -> u16
     requires { 4 ≤ length payload.now }
     ensures { result ≡ position_of payload.now }
 {
-    payload[2] as u16 + 256 * payload[3] as u16
+    u16::from_le_bytes([payload[2], payload[3]])
 }
 
 impl Draft {
@@ -51,7 +51,7 @@ impl Draft {
         let bytes = head_of(REPLY_VERSION, payload);
         Draft {
             bytes,
-            len: 4,
+            len: HEAD,
             skip: position_of(payload) as usize,
             left: MAX_PAIRS,
         }
@@ -94,9 +94,8 @@ impl Draft {
     fn add_held<L: Layer>(&mut self, layer: &L, key: u32)
         ensures { (ks : List ℕ) → finished_by (L.Layer.settings layer.now) self.new ks ≡ finished_by (L.Layer.settings layer.now) self.old (key ∷ ks) }
     {
-        match layer.value(key) {
-            Some(value) => self.add(key, value),
-            None => {}
+        if let Some(value) = layer.value(key) {
+            self.add(key, value);
         }
     }
 
@@ -104,10 +103,11 @@ impl Draft {
     pub(crate) fn add_named<L: Layer>(&mut self, entries: &[Entry], layer: &L, number: u32)
         ensures { (ks : List ℕ) → finished_by (L.Layer.settings layer.now) self.new ks ≡ finished_by (L.Layer.settings layer.now) self.old (keys_named (selector_of number) entries.now ++ ks) }
     {
-        let mut from = 0;
-        while let Some(item) = next_named(entries, number, from) {
-            self.add_held(layer, entries[item].key);
-            from = item + 1;
+        let selector = selector_of(number);
+        for entry in entries {
+            if selector.names(entry.key) {
+                self.add_held(layer, entry.key);
+            }
         }
     }
 }

@@ -1,13 +1,40 @@
-use Rattle.std.proofs.Common.{rules}
-use Rattle.page.proofs.Drafted.{frames_start, frame_end}
-use Rattle.page.proofs.Walks.{keys_end}
+use Rattle.std.proofs.Common.{◌≡◌, drop, rules, ◌∙◌, arith}
+use Rattle.item.specs.Selectors.{selector_of}
+use Rattle.catalogue.specs.Owned.{entries_of}
+use Rattle.page.proofs.Drafted.{frames_start, frame_by, frame_named, frame_end}
+use Rattle.page.proofs.Walks.{keys_on, keys_stop, keys_end}
 use Rattle.page.proofs.answer.drafted.Goals as goal
 
-pub loop-place-init : goal.loop-place-init
-loop-place-init g c = search (rules, frames_start)
+pub loop-before-init : goal.loop-before-init
+loop-before-init g c =
+    let none : c.into_iter-before-iterator.result.count ≡ 0 = cc in
+    let four : c.into_iter-before-iterator.result.iter.size ≡ 4 = cc in
+    let rest : c.into_iter-before-iterator.result.iter.rest.now ≡ drop 4 c.args.payload.now = cc in
+    (omega arith, four, frames_start _ _ _ _ _ _ c.new-draft.ensures.head c.new-draft.ensures.skip c.new-draft.ensures.left none rest)
+
+pub loop-before-preserved : goal.loop-before-preserved
+loop-before-preserved g c =
+    let inv = c.loop-before.invariant in
+    let step = c.in-Some.ensures.steps in
+    let es = entries_of c.args.catalogue.now in
+    let ss = g.L.Layer.settings c.args.layer.now in
+    let same = frame_named es _ ss (selector_of c.in_ok-number.number) _ _ c.entries.ensures.value c.add_named.ensures in (
+      omega (arith, c.in_ok-number.ensures),
+      step.0.0 ∙ inv.1,
+      keys_on es _ _ _ _ _ _ step.0.1.0 step.0.1.1 inv.1 step.0.1.2 step.1 (frame_by ss c.loop-before.draft) c.in_ok-number.number _ (frame_by ss c.add_named.new.self) step.2 c.in_ok-number.ensures same ∙ inv.2,
+    )
+
+pub returns-in_err-number : goal.returns-in_err-number
+returns-in_err-number g c =
+    let inv = c.loop-before.invariant in
+    let step = c.in-Some.ensures.steps in
+    let ss = g.L.Layer.settings c.args.layer.now in
+    let stop = keys_stop (entries_of c.args.catalogue.now) _ _ _ _ _ _ step.0.1.0 step.0.1.1 inv.1 step.0.1.2 step.1 (frame_by ss c.loop-before.draft) _ c.in_err-number.ensures ∙ inv.2 in
+    search rules
 
 pub returns : goal.returns
 returns g c =
-    let end = keys_end c.args.entries.now c.loop-place.left c.loop-place.place c.args.payload.now c.loop-place-test.false in
-    let frame = frame_end (g.L.Layer.settings c.args.layer.now) c.loop-place.draft in
+    let step = c.in-None.ensures.steps in
+    let end = keys_end (entries_of c.args.catalogue.now) c.loop-before.before-iterator.count c.loop-before.before-iterator.iter.rest.now step.0.1.0 in
+    let frame = frame_end (g.L.Layer.settings c.args.layer.now) c.loop-before.draft in
     search rules

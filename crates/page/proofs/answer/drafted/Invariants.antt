@@ -1,14 +1,14 @@
-use Rattle.std.proofs.Common.{◌≡◌, ◌-◌, length}
+use Rattle.std.proofs.Common.{◌≡◌, ◌≤◌}
+use Rattle.catalogue.specs.Owned.{entries_of}
 use Rattle.reference.specs.Requests.{ok_map, keys_of}
 use Rattle.page.specs.Pages.{page_frame}
-use Rattle.page.specs.Walks.{keys_from}
+use Rattle.page.specs.Walks.{keys_behind}
 use Rattle.page.proofs.Drafted.{frame_by}
 use Rattle.page.proofs.answer.drafted.Given as goal
 
-abbrev pub invariant-loop-place : goal.invariant-loop-place
-invariant-loop-place g l =
+abbrev pub invariant-loop-before : goal.invariant-loop-before
+invariant-loop-before g l =
+    let it = l.before-iterator in
+    let es = entries_of l.catalogue in
     let ss = g.L.Layer.settings l.layer in
-    ok_map (frame_by ss l.draft) (keys_from l.entries l.left l.place l.payload) ≡ ok_map (page_frame ss l.payload) (keys_of l.entries l.payload)
-
-abbrev pub decreases-loop-place : goal.decreases-loop-place
-decreases-loop-place g l = length l.payload - l.place
+    (it.count ≤ 64) × (it.iter.size ≡ 4) × (ok_map (frame_by ss l.draft) (keys_behind es it.count it.iter.rest.now) ≡ ok_map (page_frame ss l.payload) (keys_of es l.payload))

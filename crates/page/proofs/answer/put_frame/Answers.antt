@@ -5,8 +5,7 @@ use Rattle.reference.specs.Requests.{configuration_class, valget}
 use Rattle.page.specs.Drafts.{payload_of}
 use Rattle.page.proofs.answer.put_frame.Goals as goal
 
-pub returns-in-Ok : goal.returns-in-Ok
-returns-in-Ok c =
-    let told = c.in-Ok.ensures in
+pub returns-clause-value : goal.returns-clause-value
+returns-clause-value c =
     let len = frame_length (carrying configuration_class valget (payload_of c.args.draft.now)) in
     search rules

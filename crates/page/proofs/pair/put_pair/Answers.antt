@@ -1,19 +1,21 @@
-use Rattle.std.proofs.Common.{rules}
+use Rattle.std.proofs.Common.{◌≡◌, Some, rules}
+use Rattle.item.specs.Keys.{size_of}
 use Rattle.page.proofs.Pairs.{value_fits, has_size, width_few, length_pair, pair_written}
 use Rattle.page.proofs.pair.put_pair.Goals as goal
 
-pub put_value-requires : goal.put_value-requires
-put_value-requires c =
-    let size = c.in-Some.ensures in
-    let few = width_few c.in-Some.size in
-    search (rules, value_fits)
+pub unwrap-requires : goal.unwrap-requires
+unwrap-requires c = search (rules, has_size)
 
-pub returns-in-Some : goal.returns-in-Some
-returns-in-Some c =
-    let size = c.in-Some.ensures in
-    let few = width_few c.in-Some.size in
-    let len = length_pair c.args.key c.args.value c.in-Some.size size in
-    search (rules, pair_written)
+pub put_value-requires-clause-fits : goal.put_value-requires-clause-fits
+put_value-requires-clause-fits c = let size = c.unwrap.ensures in search (rules, value_fits)
 
-pub returns-in-None : goal.returns-in-None
-returns-in-None c = absurd (has_size c.args.key c.args.value c.requires.setting c.in-None.ensures)
+pub returns-clause-out : goal.returns-clause-out
+returns-clause-out c =
+    let size : Some c.unwrap.result ≡ size_of c.args.key = cc in
+    pair_written _ _ _ size _ _ _ _ _ c.put_value-behind.ensures.next c.requires.room c.put_value-behind.ensures.out c.put_value.ensures.out
+
+pub returns-clause-next : goal.returns-clause-next
+returns-clause-next c =
+    let size = c.unwrap.ensures in
+    let few = width_few c.unwrap.result in
+    search (rules, length_pair)
