@@ -1,6 +1,7 @@
 // The lines that answer the commands.
+use catalogue::CatalogueFault;
 use layer::StoreFault;
-use reference::{Call, CallFault, PartsFault, Telling, Verdict};
+use reference::{Call, CallFault, PartsFault, Refusal, Telling, Verdict};
 use replay::Event;
 use script::LineFault;
 use std::fmt;
@@ -50,21 +51,16 @@ impl fmt::Display for MakeLine {
         };
         let number = fault.number();
         write!(f, "make {number}")?;
-        match number {
-            2..=4 => {
+        match fault {
+            PartsFault::Catalogue(CatalogueFault::EntryCount) => Ok(()),
+            PartsFault::Catalogue(fault) => {
                 let entry = fault.entry();
                 write!(f, " entry {entry}")
             }
-            6 => {
-                let layer = fault.layer();
-                let key = fault.key();
-                write!(f, " layer {layer} key {key:08x}")
-            }
-            7 => {
-                let item = fault.item();
-                write!(f, " item {item}")
-            }
-            _ => Ok(()),
+            PartsFault::BbrUnusable => Ok(()),
+            PartsFault::StrayInBbr(key) => write!(f, " layer 1 key {key:08x}"),
+            PartsFault::StrayInFlash(key) => write!(f, " layer 2 key {key:08x}"),
+            PartsFault::DefaultsUnfit(item) => write!(f, " item {item}"),
         }
     }
 }
@@ -126,7 +122,10 @@ fn show_telling<W: fmt::Write>(
             let number = refusal.number();
             let place = refusal.place();
             // the rule names an item, every other refusal a place in the payload
-            let what = if number == 21 { "item" } else { "place" };
+            let what = match refusal {
+                Refusal::Unfit(_) => "item",
+                _ => "place",
+            };
             write!(f, "nak {number} {what} {place}")?;
             show_written(f, written)
         }

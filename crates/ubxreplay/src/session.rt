@@ -1,15 +1,15 @@
 // What a script has come to: the set-up of a receiver and, behind its make, the lines that are answered when all of them are read.
 use crate::answers::{ErrorLine, EventLine, MakeLine, WriteLine};
-use anyhow::anyhow;
+use anyhow::Context;
 use configuration::check;
-use layer::Store;
+use layer::StoreFault;
 use reference::Call;
 use replay::{Event, replay};
-use rule::{Both, Needs, Ranges};
+use rule::{Both, Need, Needs, Ranges};
 use script::{Command, LineFault, OwnCall, Part, Setup, read_line};
 use std::alloc::{AllocError, Global};
 use std::io::Write;
-use std::mem;
+use std::{io, mem};
 
 // A line behind make that is answered.
 #[derive(Drop)]
@@ -19,135 +19,111 @@ enum Step {
 }
 
 #[derive(Drop)]
-pub struct Session {
+pub struct Session<'a, W> {
+    heap: Global,
+    out: &'a mut W,
     setup: Setup,
     // none before make
     steps: Option<Vec<Step>>,
 }
 
-impl Session {
-    pub fn new(heap: Global) -> Session {
+impl<'a, W: Write> Session<'a, W> {
+    pub fn new(heap: Global, out: &'a mut W) -> Session<'a, W> {
         Session {
+            heap,
+            out,
             setup: Setup::new(heap),
             steps: None,
         }
     }
 
     // Takes one line, by its number. What stands before make is answered at once.
-    pub fn take_line<W: Write>(
-        &mut self,
-        heap: Global,
-        out: &mut W,
-        number: usize,
-        line: &str,
-    ) -> anyhow::Result<()> {
-        match read_line(heap, line) {
+    pub fn take_line(&mut self, number: usize, line: &str) -> anyhow::Result<()> {
+        match read_line(self.heap, line) {
             Ok(None) => Ok(()),
-            Ok(Some(command)) => self.obey(heap, out, number, command),
+            Ok(Some(command)) => self.obey(number, command),
             Err(LineFault::NoMemory) => Err(LineFault::NoMemory.into()),
-            Err(fault) => self.refuse(out, ErrorLine { number, fault }),
+            Err(fault) => self.refuse(number, fault),
         }
     }
 
-    fn obey<W: Write>(
-        &mut self,
-        heap: Global,
-        out: &mut W,
-        number: usize,
-        command: Command,
-    ) -> anyhow::Result<()> {
-        match command {
-            Command::New => {
-                self.finish(heap, out)?;
-                self.setup = Setup::new(heap);
+    fn obey(&mut self, number: usize, command: Command) -> anyhow::Result<()> {
+        match (command, &mut self.steps) {
+            (Command::New, _) => {
+                self.finish()?;
+                self.setup = Setup::new(self.heap);
                 Ok(())
             }
-            Command::SetUp(part) => self.set_up(out, number, part),
-            Command::Make => self.make(heap, out, number),
-            Command::Call(call) => self.call(out, number, call),
+            (Command::SetUp(part), None) => self.set_up(part),
+            (Command::Make, None) => self.make(),
+            (Command::Call(call), Some(steps)) => Ok(steps.push(Step::Call(call))?),
+            (Command::Call(_), None) => self.refuse(number, LineFault::CallBeforeMake),
+            (_, Some(_)) => self.refuse(number, LineFault::SetUpAfterMake),
         }
     }
 
-    fn refuse<W: Write>(&mut self, out: &mut W, line: ErrorLine) -> anyhow::Result<()> {
+    fn refuse(&mut self, number: usize, fault: LineFault) -> anyhow::Result<()> {
+        let line = ErrorLine { number, fault };
         match &mut self.steps {
             Some(steps) => steps.push(Step::Fault(line))?,
-            None => out.writeln(line)?,
+            None => self.out.writeln(line)?,
         }
         Ok(())
     }
 
-    fn set_up<W: Write>(&mut self, out: &mut W, number: usize, part: Part) -> anyhow::Result<()> {
-        if self.steps.is_some() {
-            let fault = LineFault::SetUpAfterMake;
-            return self.refuse(out, ErrorLine { number, fault });
-        }
+    fn set_up(&mut self, part: Part) -> anyhow::Result<()> {
         match part {
             Part::Entry(entry) => self.setup.add_entry(entry)?,
             Part::Need(need) => self.setup.add_need(need)?,
             Part::Store(place, choice) => self.setup.choose(place, choice),
             Part::Put(place, key, value) => {
                 let answer = self.setup.put(place, key, value);
-                out.writeln(WriteLine {
-                    name: "put",
-                    answer,
-                })?;
+                self.tell_write("put", answer)?;
             }
             Part::Remove(place, key) => {
                 let answer = self.setup.remove(place, key);
-                out.writeln(WriteLine {
-                    name: "remove",
-                    answer,
-                })?;
+                self.tell_write("remove", answer)?;
             }
             Part::Clear(place) => {
                 let answer = self.setup.clear(place);
-                out.writeln(WriteLine {
-                    name: "clear",
-                    answer,
-                })?;
+                self.tell_write("clear", answer)?;
             }
         }
         Ok(())
     }
 
-    fn make<W: Write>(&mut self, heap: Global, out: &mut W, number: usize) -> anyhow::Result<()> {
-        if self.steps.is_some() {
-            let fault = LineFault::SetUpAfterMake;
-            return self.refuse(out, ErrorLine { number, fault });
-        }
-        self.steps = Some(Vec::new(heap));
+    fn tell_write(&mut self, name: &'static str, answer: Result<(), StoreFault>) -> io::Result<()> {
+        self.out.writeln(WriteLine { name, answer })
+    }
+
+    fn make(&mut self) -> anyhow::Result<()> {
+        self.steps = Some(Vec::new(self.heap));
         let Setup {
             entries,
             needs,
             bbr,
             flash,
         } = &self.setup;
-        let rule = Both {
-            first: Ranges,
-            second: Needs::new(needs.as_slice()),
-        };
-        out.writeln(MakeLine(check(entries.as_slice(), bbr, flash, &rule)))?;
-        Ok(())
-    }
-
-    fn call<W: Write>(&mut self, out: &mut W, number: usize, call: OwnCall) -> anyhow::Result<()> {
-        match &mut self.steps {
-            Some(steps) => steps.push(Step::Call(call))?,
-            None => {
-                let fault = LineFault::CallBeforeMake;
-                out.writeln(ErrorLine { number, fault })?;
-            }
-        }
+        let checked = check(entries.as_slice(), bbr, flash, &rule_of(needs.as_slice()));
+        self.out.writeln(MakeLine(checked))?;
         Ok(())
     }
 
     // Replays the calls behind make, and answers their lines. Where there is no make, there is nothing left to answer.
-    pub fn finish<W: Write>(&mut self, heap: Global, out: &mut W) -> anyhow::Result<()> {
+    pub fn finish(&mut self) -> anyhow::Result<()> {
         let Some(steps) = self.steps.take() else {
             return Ok(());
         };
-        let setup = mem::replace(&mut self.setup, Setup::new(heap));
-        answer_steps(heap, out, setup, steps.as_slice())
+        let setup = mem::replace(&mut self.setup, Setup::new(self.heap));
+        answer_steps(self.heap, self.out, setup, steps.as_slice())
+    }
+}
+
+// The values lie in their bounds, and each item has what it needs.
+fn rule_of(needs: &[Need]) -> Both<Ranges, Needs> {
+    Both {
+        first: Ranges,
+        second: Needs::new(needs),
     }
 }
 
@@ -163,10 +139,7 @@ fn answer_steps<W: Write>(
         bbr,
         flash,
     } = setup;
-    let rule = Both {
-        first: Ranges,
-        second: Needs::new(needs.as_slice()),
-    };
+    let rule = rule_of(needs.as_slice());
     let calls = calls_of(heap, steps)?;
     let replayed = replay(heap, entries.as_slice(), bbr, flash, rule, calls.as_slice())?;
     print_steps(out, steps, replayed.log.as_slice())
@@ -174,36 +147,27 @@ fn answer_steps<W: Write>(
 
 // The calls among the steps.
 fn calls_of<'a>(heap: Global, steps: &'a [Step]) -> Result<Vec<Call<'a>>, AllocError> {
-    let mut calls = Vec::new(heap);
-    for step in steps {
-        if let Step::Call(call) = step {
-            calls.push(lent(call))?;
-        }
-    }
-    Ok(calls)
+    steps.iter().filter_map(|step| step.call()).collect(heap)
 }
 
-fn lent(call: &OwnCall) -> Call<'_> {
-    match call {
-        OwnCall::Take(bytes) => Call::Take(bytes.as_slice()),
-        OwnCall::Answer(size) => Call::Answer(*size),
-        OwnCall::Look(layer, key) => Call::Look(*layer, *key),
-        OwnCall::Restart(battery) => Call::Restart(*battery),
+impl Step {
+    fn call(&self) -> Option<Call<'_>> {
+        match self {
+            Step::Call(call) => Some(call.into()),
+            Step::Fault(_) => None,
+        }
     }
 }
 
 // The log has one event for each call.
 fn print_steps<W: Write>(out: &mut W, steps: &[Step], log: &[Event<'_>]) -> anyhow::Result<()> {
-    let mut place = 0usize;
+    let mut events = log.iter();
     for step in steps {
         match step {
             Step::Fault(line) => out.writeln(*line)?,
             Step::Call(_) => {
-                let Some(event) = log.get(place) else {
-                    return Err(anyhow!("the log ends before the calls do"));
-                };
+                let event = events.next().context("the log ends before the calls do")?;
                 out.writeln(EventLine(event))?;
-                place = place.saturating_add(1);
             }
         }
     }
