@@ -10,7 +10,7 @@ ghost use Rattle.page.specs.declared.answer.PageFault.TheVariants.{Refused};
 use crate::draft::Draft;
 use crate::entry::{ENTRY, HEAD, entries_in, number_in};
 use catalogue::Catalogue;
-use frame::{MAX_FRAME, write_frame};
+use frame::{Frame, MAX_FRAME, write_frame};
 use layer::Layer;
 use reference::Refusal;
 use request::{CONFIGURATION_CLASS, VALGET};
@@ -65,7 +65,12 @@ fn put_frame(out: &mut [u8], draft: &Draft) -> usize
     ensures value { result ≡ length (draft_frame draft.now) }
     ensures out { out.new ≡ in_front (draft_frame draft.now) out.old }
 {
-    write_frame(out, CONFIGURATION_CLASS, VALGET, draft.payload()).unwrap()
+    let frame = Frame {
+        class: CONFIGURATION_CLASS,
+        id: VALGET,
+        payload: draft.payload(),
+    };
+    write_frame(out, &frame).unwrap()
 }
 
 // Writes the reply to a get at the start of the buffer: what the layer holds under the keys that the payload names, of which the position's

@@ -4,7 +4,7 @@ ghost use Rattle.frame.specs.Frames.{frame_bytes};
 ghost use Rattle.frame.specs.Written.{patched};
 ghost use Rattle.receiver.specs.Written.{verdict_on};
 
-use frame::write_frame;
+use frame::{Frame, write_frame};
 use request::CONFIGURATION_CLASS;
 
 pub(crate) const VERDICT_CLASS: u8 = 0x05;
@@ -19,7 +19,11 @@ pub(crate) fn write_verdict(out: &mut [u8], place: usize, verdict: u8, id: u8) -
     ensures next { result ≡ place + 10 }
     ensures out { out.new ≡ patched place (frame_bytes (verdict_on verdict id)) out.old }
 {
-    let payload = [CONFIGURATION_CLASS, id];
-    let size = write_frame(&mut out[place..], VERDICT_CLASS, verdict, &payload).unwrap_or(0);
+    let frame = Frame {
+        class: VERDICT_CLASS,
+        id: verdict,
+        payload: &[CONFIGURATION_CLASS, id],
+    };
+    let size = write_frame(&mut out[place..], &frame).unwrap_or(0);
     place + size
 }

@@ -11,7 +11,7 @@ use super::Draft;
 use crate::entry::HEAD;
 use crate::pair::put_pair;
 use catalogue::Entry;
-use item::selector_of;
+use item::Selector;
 use layer::Layer;
 
 // The version of a reply.
@@ -103,7 +103,7 @@ impl Draft {
     pub(crate) fn add_named<L: Layer>(&mut self, entries: &[Entry], layer: &L, number: u32)
         ensures { (ks : List ℕ) → finished_by (L.Layer.settings layer.now) self.new ks ≡ finished_by (L.Layer.settings layer.now) self.old (keys_named (selector_of number) entries.now ++ ks) }
     {
-        let selector = selector_of(number);
+        let selector = Selector::from(number);
         for entry in entries {
             if selector.names(entry.key) {
                 self.add_held(layer, entry.key);

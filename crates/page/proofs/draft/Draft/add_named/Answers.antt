@@ -17,7 +17,7 @@ loop-entry-preserved g c ks =
     let i = c.loop-entry.entry-index in
     let at = λ (d : Draft). finished_by ss d (keys_named s (drop (i + 1) es) ++ ks) in
     let key = (get_or es i blank).key in
-    let named : c.names.result ≡ names s key = c.names.ensures ∙ ap (λ (t : Selector). names t key) c.selector_of-selector.ensures.value in
+    let named : c.names.result ≡ names s key = c.names.ensures ∙ ap (λ (t : Selector). names t key) c.from-selector.ensures.value in
     elim c.if-names.branch [
       | then-names w ↦ ap at w.self-is ∙ named_more ss es s i _ c.loop-entry-test.true _ _ (sym w.if-names.true ∙ named) w.add_held.ensures ks ∙ c.loop-entry.invariant ks
       | else-names w ↦ ap at w.self-is ∙ named_less ss es s i _ c.loop-entry-test.true _ (sym w.if-names.false ∙ named) ks ∙ c.loop-entry.invariant ks
