@@ -11,7 +11,7 @@ use super::Receiver;
 use super::meaning::Meaning;
 use catalogue::Catalogue;
 use layer::{Layer, Store};
-use page::{Page, write_page};
+use page::{PageFault, write_page};
 use reference::Refusal;
 use request::byte_at;
 use rule::Rule;
@@ -27,11 +27,11 @@ fn reply_from<L: Layer>(
     ensures value { result ≡ ok_map length (page_bytes (entries_of catalogue.now) (L.Layer.settings layer.now) payload.now) }
     ensures out { out.new ≡ in_front_if_made (page_bytes (entries_of catalogue.now) (L.Layer.settings layer.now) payload.now) out.old }
 {
-    match write_page(catalogue, layer, payload, out) {
-        Page::Written(length) => Ok(length),
-        Page::Refused(refusal) => Err(refusal),
-        Page::NoRoom => Err(Refusal::ShortPayload),
-    }
+    write_page(catalogue, layer, payload, out).map_err(|fault| match fault {
+        PageFault::Refused(refusal) => refusal,
+        // there is room
+        PageFault::NoRoom => Refusal::ShortPayload,
+    })
 }
 
 impl<B: Store, F: Store, R: Rule> Receiver<B, F, R> {
