@@ -32,8 +32,8 @@ impl Error for FeedFault {}
 impl From<AllocError> for FeedFault {
     ghost from_gives = { λ _ fault. fault ≡ NoMemory };
 
-    fn from(_error: AllocError) -> FeedFault {
-        FeedFault::NoMemory
+    fn from(_error: AllocError) -> Self {
+        Self::NoMemory
     }
 }
 
