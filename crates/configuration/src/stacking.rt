@@ -10,7 +10,7 @@ use crate::gathering::gathered;
 use crate::judging::fault_in;
 use layer::{Layer, Stack, Store};
 use rule::Rule;
-use store::{CatalogueDefaults, SlotTable};
+use store::{Defaults, SlotTable};
 
 // RAM as it was stacked, and the item at fault where it is the defaults alone.
 #[derive(Drop)]
@@ -19,20 +19,20 @@ pub struct Stacked {
     pub fault: Option<usize>,
 }
 
-fn gather_pile<B: Store, F: Store>(pile: &Stack<Stack<B, F>, CatalogueDefaults>) -> SlotTable
+fn gather_pile<B: Store, F: Store>(pile: &Stack<Stack<B, F>, Defaults>) -> SlotTable
     ensures { settings_of result.slots ≡ settings_by (stack_value (held (store_of B.Store.usable B.Layer.settings pile.now.upper.upper)) (held (store_of F.Store.usable F.Layer.settings pile.now.upper.lower))) (entries_of pile.now.lower.catalogue) }
 {
     gathered(&pile.lower.catalogue, pile)
 }
 
-fn gather_defaults(defaults: &CatalogueDefaults) -> SlotTable
+fn gather_defaults(defaults: &Defaults) -> SlotTable
     ensures { settings_of result.slots ≡ settings_by default_of (entries_of defaults.now.catalogue) }
 {
     gathered(&defaults.catalogue, defaults)
 }
 
 // The table where there is no fault, else the defaults alone.
-fn unless_unfit(table: SlotTable, fault: Option<usize>, defaults: &CatalogueDefaults) -> SlotTable
+fn unless_unfit(table: SlotTable, fault: Option<usize>, defaults: &Defaults) -> SlotTable
     ensures { settings_of result.slots ≡ if_fit fault (settings_of table.slots) (settings_by default_of (entries_of defaults.now.catalogue)) }
 {
     match fault {
@@ -43,7 +43,7 @@ fn unless_unfit(table: SlotTable, fault: Option<usize>, defaults: &CatalogueDefa
 
 // RAM as it stands after making and after a restart.
 pub fn stack_ram<B: Store, F: Store, R: Rule>(
-    pile: &Stack<Stack<B, F>, CatalogueDefaults>,
+    pile: &Stack<Stack<B, F>, Defaults>,
     rule: &R,
 ) -> Stacked
     ensures ram { settings_of result.ram.slots ≡ stacked (entries_of pile.now.lower.catalogue) (R.Rule.finding rule.now) (held (store_of B.Store.usable B.Layer.settings pile.now.upper.upper)) (held (store_of F.Store.usable F.Layer.settings pile.now.upper.lower)) }

@@ -3,7 +3,7 @@ use crate::transaction::Transaction;
 use held::Held;
 use layer::{Stack, Store};
 use rule::Rule;
-use store::{CatalogueDefaults, SlotTable};
+use store::{Defaults, SlotTable};
 
 pub mod calls;
 pub mod carrying;
@@ -19,7 +19,7 @@ pub struct Receiver<B: Store, F: Store, R: Rule> {
     // what was taken and not dropped yet
     held: Held,
     // BBR over Flash over the defaults
-    layers: Stack<Stack<B, F>, CatalogueDefaults>,
+    layers: Stack<Stack<B, F>, Defaults>,
     rule: R,
     ram: SlotTable,
     transaction: Option<Transaction>,

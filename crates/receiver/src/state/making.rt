@@ -15,7 +15,7 @@ use configuration::{check, stack_ram};
 use held::Held;
 use layer::{Stack, Store};
 use rule::Rule;
-use store::{CatalogueDefaults, SlotTable};
+use store::{Defaults, SlotTable};
 
 // What a receiver was made of, but for the catalogue, which it copied.
 pub struct Parts<B, F, R> {
@@ -37,7 +37,7 @@ fn is_refused<B: Store, F: Store, R: Rule>(entries: &[Entry], bbr: &B, flash: &F
 // RAM as it is stacked, or empty in a shut receiver.
 fn first_ram<B: Store, F: Store, R: Rule>(
     shut: bool,
-    layers: &Stack<Stack<B, F>, CatalogueDefaults>,
+    layers: &Stack<Stack<B, F>, Defaults>,
     rule: &R,
 ) -> SlotTable
     ensures { settings_of result.slots ≡ (if shut then [] else stacked (entries_of layers.now.lower.catalogue) (R.Rule.finding rule.now) (held (store_of B.Store.usable B.Layer.settings layers.now.upper.upper)) (held (store_of F.Store.usable F.Layer.settings layers.now.upper.lower))) }
@@ -63,7 +63,7 @@ impl<B: Store, F: Store, R: Rule> Receiver<B, F, R> {
                 upper: bbr,
                 lower: flash,
             },
-            lower: CatalogueDefaults::new(entries),
+            lower: Defaults::new(entries),
         };
         let ram = first_ram(shut, &layers, &rule);
         Receiver {
