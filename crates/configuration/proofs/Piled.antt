@@ -7,21 +7,13 @@ use Rattle.catalogue.specs.Catalogues.{entries_checked, Listed}
 use Rattle.catalogue.proofs.Catalogues.{checked_listed}
 use Rattle.layer.specs.declared.setting.Setting.{Setting}
 use Rattle.layer.specs.Settings.{setting, value_under, merged}
-use Rattle.layer.specs.SettingsLemmas.{value_merged_some, value_merged_none}
+use Rattle.layer.specs.SettingsLemmas.{value_merged}
 use Rattle.rule.specs.Rules.{Finding}
 use Rattle.store.specs.Catalogued.{defaults_of}
 use Rattle.reference.specs.Stores.{Store, held}
 use Rattle.reference.specs.Parts.{settings_by, stack_value, default_of, if_fit, stack_fault, stacked}
 use Rattle.reference.specs.Receiver.{configuration, pair_under}
 use Rattle.configuration.specs.Meaning.{held_under, item_value}
-
--- the first value, else the second
-value_merged : (k : ℕ) (xs ys : List Setting) → value_under k (merged xs ys) ≡ option_or (value_under k xs) (value_under k ys)
-value_merged k xs ys = go (value_under k xs) refl
-  where
-    go : (o : Option ℕ) → value_under k xs ≡ o → value_under k (merged xs ys) ≡ option_or o (value_under k ys)
-    go None is = value_merged_none k xs ys is
-    go (Some v) is = value_merged_some k v xs ys is
 
 value_first : (k v : ℕ) (ss : List Setting) → value_under k (setting k v ∷ ss) ≡ Some v
 value_first k v ss = cond-true _ _ _ (eq-eqb k k refl)
