@@ -1,19 +1,15 @@
 -- Laws of numbers in text.
-use Rattle.std.proofs.Common.{◌≡◌, ℕ, ◌+◌, ◌*◌, ◌<◌, ◌≤◌, min, List, [], ◌∷◌, length, get_or, drop, Some, None, Option, sym, refl, ap, ◌∙◌, subst, inl, inr, mul-le-mul_left, mul-one, arith}
+use Rattle.std.proofs.Common.{◌≡◌, ℕ, ◌+◌, ◌*◌, ◌<◌, ◌≤◌, min, List, [], ◌∷◌, length, get_or, drop, Some, None, Option, sym, refl, ap, ◌∙◌, inl, inr, mul-le-mul_left, arith}
 use Rattle.std.proofs.lemmas.List.{drop_more, drop_all}
 use Rattle.std.proofs.lemmas.Bool.{cases_lt}
 use Rattle.script.specs.Numbers.{and_then, digit_in, followed_by, capped}
-
--- a digit more is not less
-times_le : (a base : ℕ) → 1 ≤ base → a ≤ a * base
-times_le a base pos = subst (λ x. x ≤ a * base) (mul-one a) (mul-le-mul_left a pos)
 
 -- two numbers that are one, or that both reach the most, stay so as a digit follows
 digit_capped : (most base a b d : ℕ) → 1 ≤ base → min most a ≡ min most b → min most (a * base + d) ≡ min most (b * base + d)
 digit_capped most base a b d pos e =
     elim (cases_lt a most) [
       | inl low ↦ (let same : a ≡ b = omega arith in ap (λ n. min most (n * base + d)) same)
-      | inr high ↦ (let x = times_le a base pos in let y = times_le b base pos in omega arith)
+      | inr high ↦ (let x = mul-le-mul_left a pos in let y = mul-le-mul_left b pos in omega arith)
     ]
 
 and_then_capped : (most : ℕ) (o : Option ℕ) (f g : ℕ → Option ℕ) → ((d : ℕ) → capped most (f d) ≡ capped most (g d)) → capped most (and_then o f) ≡ capped most (and_then o g)

@@ -7,6 +7,7 @@ use crate::number::{read_count, read_kind, read_layer, read_value, read_word};
 use catalogue::{Entry, Kind};
 use rule::Need;
 
+// kept: the five differ in what is read and in what is said where it is none; `ok_or` is all that they share
 pub(crate) fn key_in(word: &str) -> Result<u32, LineFault>
     ensures { result ≡ key_read word.now }
 {

@@ -51,6 +51,8 @@ fn number_in(base: u128, text: &str) -> Option<u128>
     digits_in(base, text.as_bytes())
 }
 
+// kept: each of these six is one line over number_in, of its own type and base, and a generic one would hide both
+
 // A key or a word: a hexadecimal number below 2^32.
 pub fn read_word(text: &str) -> Option<u32>
     ensures { result ≡ up_to (2 ^ 32 - 1) (number_in 16 text.now) }

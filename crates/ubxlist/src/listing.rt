@@ -1,15 +1,13 @@
-// The listing of an input: read in pieces, which a receiver takes and answers.
+// The listing of an input: a receiver takes its pieces and answers.
 use crate::row::Row;
-use anyhow::anyhow;
 use catalogue::bench_catalogue;
 use layer::Absent;
+use options::for_each_piece;
 use receiver::{ANSWER_ROOM, Receiver};
 use reference::{Answered, CallFault};
 use rule::{Both, Need, Needs, Ranges};
-use std::io::{ErrorKind, Read, Write};
+use std::io::{Read, Write};
 use store::SlotTable;
-
-const PIECE: usize = 4096;
 
 type BenchReceiver = Receiver<SlotTable, Absent, Both<Ranges, Needs>>;
 
@@ -25,85 +23,82 @@ fn bench_receiver() -> BenchReceiver {
     Receiver::make(&bench_catalogue(), SlotTable::new(), Absent, rule)
 }
 
-// How far the input was gone through: the place of the first byte that is held, and the noise before it.
-#[derive(Clone, Copy)]
-struct Progress {
+// A listing under way: how far the input was gone through, as the place of the first byte that is held and the noise before it.
+#[derive(Drop)]
+struct Listing<'a, W> {
+    receiver: BenchReceiver,
     place: u64,
     noise: u64,
+    out: &'a mut W,
 }
 
-// Answers the first frame that is held; what is written for it is not listed.
-fn answer_first(receiver: &mut BenchReceiver) -> Result<Answered, CallFault> {
-    let mut buffer = [0u8; ANSWER_ROOM];
-    receiver.answer(&mut buffer)
-}
+impl<'a, W: Write> Listing<'a, W> {
+    // Answers the first frame that is held, and goes on to the byte behind it; what is written for it is not listed.
+    fn answer_first(&mut self) -> Result<Answered, CallFault> {
+        let mut buffer = [0u8; ANSWER_ROOM];
+        let before = self.receiver.held_count();
+        let answered = self.receiver.answer(&mut buffer)?;
+        let dropped = before.saturating_sub(self.receiver.held_count());
+        self.place = self.place.saturating_add(dropped as u64);
+        Ok(answered)
+    }
 
-// Answers all frames that are whole in what is held. Each has at least 8 of its 780 bytes, so that 98 answers are enough.
-fn answer_all<W: Write>(
-    receiver: &mut BenchReceiver,
-    progress: &mut Progress,
-    out: &mut W,
-) -> anyhow::Result<()> {
-    for _ in 0..98 {
-        let before = receiver.held_count();
-        let answered = answer_first(receiver)?;
-        let dropped = before.saturating_sub(receiver.held_count());
-        let place = progress.place;
-        progress.place = place.saturating_add(dropped as u64);
-        match answered {
-            Answered::NothingWhole(noise) => {
-                progress.noise = progress.noise.saturating_add(noise as u64);
-                return Ok(());
-            }
-            Answered::Told(telling) => {
-                let noise = telling.noise as u64;
-                progress.noise = progress.noise.saturating_add(noise);
-                let place = place.saturating_add(noise);
-                out.writeln(Row { place, telling })?;
+    fn count_noise(&mut self, noise: usize) {
+        self.noise = self.noise.saturating_add(noise as u64);
+    }
+
+    // Answers all frames that are whole in what is held. Each has a byte at least, and one answer more finds that none is whole.
+    fn answer_all(&mut self) -> anyhow::Result<()> {
+        for _ in 0..=self.receiver.held_count() {
+            let place = self.place;
+            match self.answer_first()? {
+                Answered::NothingWhole(noise) => {
+                    self.count_noise(noise);
+                    break;
+                }
+                Answered::Told(telling) => {
+                    self.count_noise(telling.noise);
+                    let place = place.saturating_add(telling.noise as u64);
+                    self.out.writeln(Row { place, telling })?;
+                }
             }
         }
+        Ok(())
     }
-    Ok(())
-}
 
-// Takes a whole piece, as much at a time as the receiver has room for.
-fn take_all<W: Write>(
-    receiver: &mut BenchReceiver,
-    progress: &mut Progress,
-    piece: &[u8],
-    out: &mut W,
-) -> anyhow::Result<()> {
-    let mut rest = piece;
-    for _ in 0..piece.len() {
-        if rest.is_empty() {
-            break;
+    // Takes a whole piece, as much at a time as the receiver has room for.
+    fn take_all(&mut self, piece: &[u8]) -> anyhow::Result<()> {
+        let mut rest = piece;
+        // kept: the receiver says how much it takes, so no iterator of the library yields the parts
+        for _ in 0..piece.len() {
+            if rest.is_empty() {
+                break;
+            }
+            let count = self.receiver.take(rest)?.min(rest.len());
+            rest = &rest[count..];
+            self.answer_all()?;
         }
-        let count = receiver.take(rest)?.min(rest.len());
-        rest = &rest[count..];
-        answer_all(receiver, progress, out)?;
+        Ok(())
     }
-    Ok(())
+
+    // Takes the whole input, and ends with the counts.
+    fn take_input<R: Read>(&mut self, input: &mut R) -> anyhow::Result<()> {
+        for_each_piece(input, |piece| self.take_all(piece))?;
+        let noise = self.noise;
+        let held = self.receiver.held_count();
+        write!(self.out, "noise {noise} held {held}\n")?;
+        Ok(())
+    }
 }
 
 // Lists the frames of the whole input.
 pub fn list<R: Read, W: Write>(input: &mut R, out: &mut W) -> anyhow::Result<()> {
     out.writeln("place class id verdict number")?;
-    let mut receiver = bench_receiver();
-    let mut progress = Progress { place: 0, noise: 0 };
-    let mut piece = [0u8; PIECE];
-    for _ in 0..u64::MAX {
-        let count = match input.read(&mut piece) {
-            Ok(count) => count,
-            Err(fault) if fault.kind() == ErrorKind::Interrupted => continue,
-            Err(fault) => return Err(fault.into()),
-        };
-        if count == 0 {
-            let noise = progress.noise;
-            let held = receiver.held_count();
-            write!(out, "noise {noise} held {held}\n")?;
-            return Ok(());
-        }
-        take_all(&mut receiver, &mut progress, &piece[0..count], out)?;
-    }
-    Err(anyhow!("gave up on an input that does not end"))
+    let mut listing = Listing {
+        receiver: bench_receiver(),
+        place: 0,
+        noise: 0,
+        out,
+    };
+    listing.take_input(input)
 }
