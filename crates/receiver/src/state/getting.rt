@@ -10,7 +10,7 @@ ghost use Rattle.receiver.specs.Plans.{page_over, gotten};
 use super::Receiver;
 use catalogue::Catalogue;
 use layer::{Layer, Store};
-use page::{Page, write_page};
+use page::{PageFault, write_page};
 use reference::Refusal;
 use request::byte_at;
 use rule::Rule;
@@ -27,11 +27,10 @@ fn reply_from<L: Layer>(
     ensures value { result ≡ ok_map length (ok_map (page_frame (L.Layer.settings layer.now) payload.now) (keys_of (entries_of catalogue.now) payload.now)) }
     ensures out { out.new ≡ in_front_if_made (ok_map (page_frame (L.Layer.settings layer.now) payload.now) (keys_of (entries_of catalogue.now) payload.now)) out.old }
 {
-    match write_page(catalogue, layer, payload, out) {
-        Page::Written(length) => Ok(length),
-        Page::Refused(refusal) => Err(refusal),
-        Page::NoRoom => Err(Refusal::ShortPayload),
-    }
+    write_page(catalogue, layer, payload, out).map_err(|fault| match fault {
+        PageFault::Refused(refusal) => refusal,
+        PageFault::NoRoom => Refusal::ShortPayload,
+    })
 }
 
 impl<B: Store, F: Store, R: Rule> Receiver<B, F, R> {
