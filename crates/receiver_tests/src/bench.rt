@@ -1,10 +1,10 @@
 // The receiver of the bench: its catalogue, ranges and item 0 needs item 1, a table for BBR, and no Flash.
 use catalogue::bench_catalogue;
-use frame::write_frame;
+use frame::{Frame, write_frame};
 use layer::Absent;
 use receiver::{ANSWER_ROOM, Parts, Receiver};
 use reference::{Answered, Telling};
-use rule::{Both, Need, Needs, Ranges};
+use rule::{Both, Needs, Ranges, bench_rule};
 use std::process::Abort;
 use std::test::Fail;
 use store::SlotTable;
@@ -16,16 +16,6 @@ pub(crate) const ADDRESS: u32 = 0x2051_0001;
 pub(crate) const RAM: u8 = 0;
 
 pub(crate) const BBR: u8 = 1;
-
-pub(crate) fn bench_rule() -> Both<Ranges, Needs> {
-    Both {
-        first: Ranges,
-        second: Needs::new(&[Need {
-            first: 0,
-            second: 1,
-        }]),
-    }
-}
 
 pub(crate) fn bench_parts() -> Parts<SlotTable, Absent, Both<Ranges, Needs>> {
     Parts {
@@ -79,7 +69,12 @@ pub(crate) fn send(
     payload: &[u8],
 ) -> Result<u8, Fail> {
     let mut line = [0u8; 40];
-    let size = write_frame(&mut line, 0x06, id, payload)?;
+    let frame = Frame {
+        class: 0x06,
+        id,
+        payload,
+    };
+    let size = write_frame(&mut line, &frame)?;
     let count = size.min(40);
     assert_eq!(rt; receiver.take(&line[0..count])?, size);
     let mut out = [0u8; ANSWER_ROOM];

@@ -1,5 +1,5 @@
 // Several frames, restarts, replays, and a receiver that is shut.
-use crate::bench::{ADDRESS, BBR, RAM, bench, bench_parts, bench_rule, send};
+use crate::bench::{ADDRESS, BBR, RAM, bench, bench_parts, send};
 use catalogue::bench_catalogue;
 use layer::Absent;
 use receiver::{ANSWER_ROOM, Parts, Receiver};

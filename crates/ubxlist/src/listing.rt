@@ -3,9 +3,9 @@ use crate::row::Row;
 use catalogue::bench_catalogue;
 use layer::Absent;
 use options::for_each_piece;
-use receiver::{ANSWER_ROOM, Receiver};
+use receiver::{ANSWER_ROOM, Parts, Receiver};
 use reference::{Answered, CallFault};
-use rule::{Both, Need, Needs, Ranges};
+use rule::{Both, Needs, Ranges, bench_rule};
 use std::io::{Read, Write};
 use store::SlotTable;
 
@@ -13,14 +13,12 @@ type BenchReceiver = Receiver<SlotTable, Absent, Both<Ranges, Needs>>;
 
 // A receiver with the bench catalogue and rule, an empty BBR and no Flash.
 fn bench_receiver() -> BenchReceiver {
-    let rule = Both {
-        first: Ranges,
-        second: Needs::new(&[Need {
-            first: 0,
-            second: 1,
-        }]),
+    let parts = Parts {
+        bbr: SlotTable::new(),
+        flash: Absent,
+        rule: bench_rule(),
     };
-    Receiver::make(&bench_catalogue(), SlotTable::new(), Absent, rule)
+    Receiver::make(&bench_catalogue(), parts)
 }
 
 // A listing under way: how far the input was gone through, as the place of the first byte that is held and the noise before it.

@@ -3,6 +3,7 @@ use crate::answers::{ErrorLine, EventLine, MakeLine, WriteLine};
 use anyhow::Context;
 use configuration::check;
 use layer::StoreFault;
+use receiver::Parts;
 use reference::Call;
 use replay::{Event, replay};
 use rule::{Both, Need, Needs, Ranges};
@@ -140,8 +141,9 @@ fn answer_steps<W: Write>(
         flash,
     } = setup;
     let rule = rule_of(needs.as_slice());
+    let parts = Parts { bbr, flash, rule };
     let calls = calls_of(heap, steps)?;
-    let replayed = replay(heap, entries.as_slice(), bbr, flash, rule, calls.as_slice())?;
+    let replayed = replay(heap, entries.as_slice(), parts, calls.as_slice())?;
     print_steps(out, steps, replayed.log.as_slice())
 }
 
