@@ -72,6 +72,14 @@ later_queue z q q' d e is = e ∙ ap (λ (x : Changes). and_later x d) is
 
 -- The checks of the head come first
 
+refused_by : (o : Option Refusal) (f : Refusal) → ◌≡◌ {A = Result (Unit {0}) Refusal} (Err f) (after_head o (Ok tt)) → Some f ≡ o
+refused_by None f e = absurd (cc)
+refused_by (Some x) f e = cc
+
+passed_by : (o : Option Refusal) → ◌≡◌ {A = Result (Unit {0}) Refusal} (Ok tt) (after_head o (Ok tt)) → None ≡ o
+passed_by None e = refl
+passed_by (Some x) e = absurd (cc)
+
 module _ (cat : Catalogue) (rule : Finding) (s : State) (m : Message) where
   -- what is planned, behind the checks of the head
   behind_head : Option Refusal → Result Plan Refusal
@@ -82,11 +90,12 @@ module _ (cat : Catalogue) (rule : Finding) (s : State) (m : Message) where
     unfolding behind_head
     head_is o e = ap behind_head (e ∙ ap₂ (head_refusal m.id m.payload) is-usable is-opened) ∙ sym (judged_change_lem cat rule s m)
 
-    pub head_refused : (f : Refusal) → Some f ≡ head_refusal m.id m.payload u opened → Err f ≡ judged_change cat rule s m
+    pub head_refused : (f : Refusal) → ◌≡◌ {A = Result (Unit {0}) Refusal} (Err f) (after_head (head_refusal m.id m.payload u opened) (Ok tt))
+        → Err f ≡ judged_change cat rule s m
     unfolding behind_head
-    head_refused f e = head_is (Some f) e
+    head_refused f e = head_is (Some f) (refused_by (head_refusal m.id m.payload u opened) f e)
 
-    pub head_passed : (r : Result Plan Refusal) (l : Layers) (a : ℕ) → None ≡ head_refusal m.id m.payload u opened
+    pub head_passed : (r : Result Plan Refusal) (l : Layers) (a : ℕ) → ◌≡◌ {A = Result (Unit {0}) Refusal} (Ok tt) (after_head (head_refusal m.id m.payload u opened) (Ok tt))
         → l ≡ layers_of m.id m.payload → a ≡ action_of m.payload → r ≡ planned cat rule s m l a → r ≡ judged_change cat rule s m
     unfolding behind_head
-    head_passed r l a e is at f = f ∙ ap₂ (planned cat rule s m) is at ∙ head_is None e
+    head_passed r l a e is at f = f ∙ ap₂ (planned cat rule s m) is at ∙ head_is None (passed_by (head_refusal m.id m.payload u opened) e)

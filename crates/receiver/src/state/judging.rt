@@ -61,7 +61,7 @@ impl<B: Store, F: Store, R: Rule> Receiver<B, F, R> {
             .map_or(ItemChanges::none(), |transaction| transaction.queue)
     }
 
-    // What an action other than closing does with the data of its frame.
+    // What an action that reads the data of its frame does with them.
     fn plan_with(
         &self,
         id: u8,
@@ -71,13 +71,10 @@ impl<B: Store, F: Store, R: Rule> Receiver<B, F, R> {
     ) -> Result<Plan, Refusal>
         ensures { judgement_of (items_of self.now) result ≡ planned_with (items_of self.now) (R.Rule.finding self.now.rule) (⟦<Self as Meaning>⟧.state self.now) id layers (action_number action) (changes_by (items_of self.now) changes.slots) }
     {
-        if action == Action::Apply {
-            return self.plan_to_apply(layers, changes);
-        }
-        let queue = if action == Action::Open {
-            changes
-        } else {
-            self.queue_with(&changes)
+        let queue = match action {
+            Action::Apply => return self.plan_to_apply(layers, changes),
+            Action::Open => changes,
+            Action::Add | Action::Close => self.queue_with(&changes),
         };
         Ok(Plan::Queue(Transaction { id, layers, queue }))
     }
@@ -94,7 +91,7 @@ impl<B: Store, F: Store, R: Rule> Receiver<B, F, R> {
     fn plan(&self, id: u8, payload: &[u8], layers: Layers, action: Action) -> Result<Plan, Refusal>
         ensures { judgement_of (items_of self.now) result ≡ planned (items_of self.now) (R.Rule.finding self.now.rule) (⟦<Self as Meaning>⟧.state self.now) (carrying configuration_class id payload.now) layers (action_number action) }
     {
-        if action == Action::Close {
+        if let Action::Close = action {
             let queue = self.queue();
             return self.plan_to_apply(layers, queue);
         }
