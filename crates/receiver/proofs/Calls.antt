@@ -6,7 +6,6 @@ use Rattle.reference.specs.declared.fault.CallFault.{CallFault}
 use Rattle.reference.specs.declared.fault.CallFault.TheVariants.{Shut, BufferTooShort, WrongLayer as NoSuchLayer, UnknownKey as NoSuchKey}
 use Rattle.reference.specs.declared.answered.Answered.{Answered}
 use Rattle.frame.specs.Written.{in_front}
-use Rattle.std.specs.Option.{option_map}
 use Rattle.layer.specs.Settings.{value_under}
 use Rattle.reference.specs.declared.call.Battery.{Battery}
 use Rattle.reference.specs.Stores.{Settings, Store, held, holding}
@@ -79,23 +78,15 @@ module _ (cat : Catalogue) (rule : Finding) (s : State) where
   unfolding served
   look_is layer k off = ap (λ (r : Stepped). r.event) (on (look_at layer k) off)
 
-  pub look_none : (layer k : ℕ) → s.shut ≡ false → None ≡ option_map (value_under k) (layer_of cat s layer) → refused (look_at layer k) NoSuchLayer ≡ (step cat rule s (look_at layer k)).event
-  look_none layer k off e = go (layer_of cat s layer) e ∙ look_is layer k off
-    where
-      go : (o : Option Settings) → None ≡ option_map (value_under k) o → refused (look_at layer k) NoSuchLayer ≡ looking cat layer k o
-      go None e = refl
-      go (Some ss) e = let z : ◌≡◌ {A = ℕ} 0 1 = cc in absurd (omega arith)
+  pub look_none : (layer k : ℕ) → s.shut ≡ false → None ≡ layer_of cat s layer → refused (look_at layer k) NoSuchLayer ≡ (step cat rule s (look_at layer k)).event
+  look_none layer k off e = ap (looking cat layer k) e ∙ look_is layer k off
 
-  module _ (layer k : ℕ) (v : Option ℕ) (b : Bool) (off : s.shut ≡ false) (e : Some v ≡ option_map (value_under k) (layer_of cat s layer)) (known : b ≡ is_known cat k) where
-    seen : cond b (looked layer k v) (refused (look_at layer k) NoSuchKey) ≡ (step cat rule s (look_at layer k)).event
-    seen = go (layer_of cat s layer) e ∙ look_is layer k off
-      where
-        go : (o : Option Settings) → Some v ≡ option_map (value_under k) o → cond b (looked layer k v) (refused (look_at layer k) NoSuchKey) ≡ looking cat layer k o
-        go None e = let z : ◌≡◌ {A = ℕ} 0 1 = cc in absurd (omega arith)
-        go (Some ss) e = let same : v ≡ value_under k ss = cc in ap₂ (λ (c : Bool) (x : Option ℕ). cond c (looked layer k x) (refused (look_at layer k) NoSuchKey)) known same
+  module _ (layer k : ℕ) (ss : Settings) (b : Bool) (off : s.shut ≡ false) (e : Some ss ≡ layer_of cat s layer) (known : b ≡ is_known cat k) where
+    seen : cond b (looked layer k (value_under k ss)) (refused (look_at layer k) NoSuchKey) ≡ (step cat rule s (look_at layer k)).event
+    seen = ap (λ (c : Bool). cond c (looked layer k (value_under k ss)) (refused (look_at layer k) NoSuchKey)) known ∙ ap (looking cat layer k) e ∙ look_is layer k off
 
-    pub look_some : b ≡ true → looked layer k v ≡ (step cat rule s (look_at layer k)).event
-    look_some is = sym (cond-true b _ _ is) ∙ seen
+    pub look_some : (v : Option ℕ) → b ≡ true → v ≡ value_under k ss → looked layer k v ≡ (step cat rule s (look_at layer k)).event
+    look_some v is value = ap (looked layer k) value ∙ sym (cond-true b _ _ is) ∙ seen
 
     pub look_unknown : b ≡ false → refused (look_at layer k) NoSuchKey ≡ (step cat rule s (look_at layer k)).event
     look_unknown is = sym (cond-false b _ _ is) ∙ seen

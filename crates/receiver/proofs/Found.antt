@@ -1,5 +1,5 @@
 -- Where a search finds a frame: its payload and what stands behind it are parts of the bytes.
-use Rattle.std.proofs.Common.{◌≡◌, ℕ, suc, ◌+◌, ◌≤◌, List, [], ◌∷◌, length, take, drop, Some, None, Option, sym, refl, ap, ◌∙◌, subst, ap₂, zero-add, arith}
+use Rattle.std.proofs.Common.{◌≡◌, ℕ, suc, ◌+◌, ◌≤◌, List, [], ◌∷◌, length, take, drop, Some, None, Ok, Err, Option, ok_or, sym, refl, ap, ◌∙◌, subst, ap₂, add-zero, zero-add, arith}
 use Rattle.frame.specs.Frames.{Message, carrying, size_of, Standing, noise, undecided, intact, standing}
 use Rattle.frame.specs.Scanning.{Finding, finding, finding_at}
 use Rattle.std.specs.Option.{option_map}
@@ -48,7 +48,7 @@ placed (x ∷ xs) = go (standing (x ∷ xs)) refl (placed xs)
         }
 
 module _ (bs : List ℕ) (found : Found) where
-  pub found_frame : (f : Frame) → finding_of found ≡ finding bs → found.frame ≡ Some f → FirstIs bs (record { noise = found.noise; frame = Some (record { class = f.class; id = f.id; length = length f.payload.now }) })
+  pub found_frame : (f : Frame) → finding_of found ≡ finding bs → found.frame ≡ Some f → FirstIs bs (Ok (record { noise = found.noise; class = f.class; id = f.id; length = length f.payload.now }))
   found_frame f e is =
       let m : Message = message_of f in
       let whole : record { skipped = found.noise; message = Some m; rest = found.rest.now } ≡ finding bs = ap (λ o. record { skipped = found.noise; message = option_map message_of o; rest = found.rest.now }) (sym is) ∙ e in
@@ -59,8 +59,16 @@ module _ (bs : List ℕ) (found : Found) where
         fits = p.within;
       }
 
-  pub found_none : finding_of found ≡ finding bs → found.frame ≡ None → FirstIs bs (record { noise = found.noise; frame = None })
+  pub found_none : finding_of found ≡ finding bs → found.frame ≡ None → FirstIs bs (Err found.noise)
   found_none e is =
       let whole : record { skipped = found.noise; message = None; rest = found.rest.now } ≡ finding bs = ap (λ o. record { skipped = found.noise; message = option_map message_of o; rest = found.rest.now }) (sym is) ∙ e in
       let p : Placed bs (record { skipped = found.noise; message = None; rest = found.rest.now }) = subst (Placed bs) (sym whole) (placed bs) in
-      record { value = ap (λ (r : List ℕ). record { skipped = found.noise; message = None; rest = r }) (sym p.rest) ∙ whole; fits = p.within }
+      let rest : found.rest.now ≡ drop found.noise bs = p.rest ∙ ap (λ n. drop n bs) (add-zero found.noise) in
+      record { value = ap (λ (r : List ℕ). record { skipped = found.noise; message = None; rest = r }) (sym rest) ∙ whole; fits = omega (arith, p.within) }
+
+  pub found_err : (n : ℕ) → finding_of found ≡ finding bs → Err n ≡ ok_or found.frame found.noise → FirstIs bs (Err n)
+  found_err n e is = go found.frame refl is
+    where
+      go : (o : Option Frame) → found.frame ≡ o → Err n ≡ ok_or o found.noise → FirstIs bs (Err n)
+      go None none r = let same : n ≡ found.noise = cc in subst (λ (k : ℕ). FirstIs bs (Err k)) (sym same) (found_none e none)
+      go (Some f) some r = cc

@@ -20,14 +20,13 @@ use Rattle.reference.specs.Requests.{Catalogue, configuration_class, valset, val
 use Rattle.reference.specs.Events.{told, written_by}
 use Rattle.reference.specs.Receiver.{State, Stepped, with_held, with_transaction, of_kind, planned, unless, judged_change, layer_of, judged_get, judged, apply_fault, applied, carried_out, handled, answering}
 use Rattle.reference.specs.Receiver.{Plan as Planned}
-use Rattle.receiver.specs.declared.first.Header.{Header}
+use Rattle.receiver.specs.declared.first.HeldFrame.{HeldFrame}
 use Rattle.receiver.specs.declared.transaction.Plan.TheVariants.{Apply, Queue}
 use Rattle.receiver.specs.declared.transaction.Granted.{Granted}
 use Rattle.receiver.specs.declared.transaction.Granted.TheVariants.{Change, Reply}
-use Rattle.receiver.specs.declared.first.First.{First}
-use Rattle.receiver.specs.First.{message_in, size_in, message_found, first_finding, FirstIs}
+use Rattle.receiver.specs.First.{message_in, end_of, first_finding, FirstIs}
 use Rattle.receiver.specs.Written.{verdict_on}
-use Rattle.receiver.specs.Handled.{telling_event, Handling, Answering, answering_of}
+use Rattle.receiver.specs.Handled.{telling_event, handled_here, Handling, Answering, answering_of}
 use Rattle.receiver.specs.Plans.{verdicted_of, reply_of, reply_length, verdict_of, verdict_id, after_verdict, told_by, Judged}
 
 -- Judging does not read the held bytes
@@ -117,8 +116,11 @@ module _ (cat : Catalogue) (rule : Finding) (s : State) (n id count end : ℕ) w
   unfolding handled
   step_is J e = ap (carried_out cat (with_held cancelled rest) n request) (judged_held cat rule cancelled rest request ∙ e)
 
+  abbrev told_at : Result Granted Refusal → Telling
+  told_at j = record { noise = n; class = configuration_class; id = id; verdict = verdict_of j; length = reply_length j + 10 }
+
   core : (old out after bs : List ℕ) (j : Result Granted Refusal) (t : Telling) → Judged cat old out (judged cat rule cancelled request) j
-      → t ≡ told_by n id j → after ≡ patched (reply_length j) (frame_bytes (verdict_on (verdict_id j) id)) out → bs ≡ drop end (after_verdict cat cancelled j).held_bytes
+      → t ≡ told_at j → after ≡ patched (reply_length j) (frame_bytes (verdict_on (verdict_id j) id)) out → bs ≡ drop end (after_verdict cat cancelled j).held_bytes
       → Handling step (with_held (after_verdict cat cancelled j) bs) old after t
   core old out after bs j t judgement told_is out_is held-is =
       let J : Result Planned Refusal = verdicted_of cat out j in
@@ -141,11 +143,11 @@ module _ (cat : Catalogue) (rule : Finding) (s : State) (n id count end : ℕ) w
         buffer = buffer ∙ ap (λ l. in_front l old) written;
       }
 
-  pub request_handled : (cat₁ : Catalogue) (rule₁ : Finding) (s₁ s₂ s₃ : State) (old out after : List ℕ) (j : Result Granted Refusal) (t : Telling) → cat₁ ≡ cat → rule₁ ≡ rule → s₁ ≡ cancelled
+  request_at : (cat₁ : Catalogue) (rule₁ : Finding) (s₁ s₂ s₃ : State) (old out after : List ℕ) (j : Result Granted Refusal) (t : Telling) → cat₁ ≡ cat → rule₁ ≡ rule → s₁ ≡ cancelled
       → Judged cat₁ old out (judged cat₁ rule₁ s₁ (carrying configuration_class id (take count (drop (n + 6) s₁.held_bytes)))) j
-      → t ≡ told_by n id j → after ≡ patched (reply_length j) (frame_bytes (verdict_on (verdict_id j) id)) out → s₂ ≡ after_verdict cat₁ s₁ j → s₃ ≡ with_held s₂ (drop end s₂.held_bytes)
+      → t ≡ told_at j → after ≡ patched (reply_length j) (frame_bytes (verdict_on (verdict_id j) id)) out → s₂ ≡ after_verdict cat₁ s₁ j → s₃ ≡ with_held s₂ (drop end s₂.held_bytes)
       → Handling step s₃ old after t
-  request_handled cat₁ rule₁ s₁ s₂ s₃ old out after j t same-cat same-rule is-cancelled judgement told_is out_is left dropped =
+  request_at cat₁ rule₁ s₁ s₂ s₃ old out after j t same-cat same-rule is-cancelled judgement told_is out_is left dropped =
       let by-cat = subst (λ (x : Catalogue). Judged x old out (judged x rule₁ s₁ (carrying configuration_class id (take count (drop (n + 6) s₁.held_bytes)))) j) same-cat judgement in
       let by-rule = subst (λ (x : Finding). Judged cat old out (judged cat x s₁ (carrying configuration_class id (take count (drop (n + 6) s₁.held_bytes)))) j) same-rule by-cat in
       let by_state = subst (λ (x : State). Judged cat old out (judged cat rule x (carrying configuration_class id (take count (drop (n + 6) x.held_bytes)))) j) is-cancelled by-rule in
@@ -153,43 +155,47 @@ module _ (cat : Catalogue) (rule : Finding) (s : State) (n id count end : ℕ) w
       subst (λ (x : State). Handling step x old after t) (sym (dropped ∙ ap (λ (x : State). with_held x (drop end x.held_bytes)) after_is))
       (core old out after (drop end (after_verdict cat cancelled j).held_bytes) j t by_state told_is out_is refl)
 
--- A frame of another class
+module _ (cat : Catalogue) (rule : Finding) (s : State) (h : HeldFrame) where
+  abbrev as_class : ℕ → List ℕ → Message
+  as_class c bs = carrying c h.id (take h.length (drop (h.noise + 6) bs))
 
-pub outside_handled : (cat : Catalogue) (rule : Finding) (s s₁ : State) (n : ℕ) (m : Message) (old bs : List ℕ) → (m.class ≡ configuration_class → ⊥) → s₁ ≡ with_held s bs
-    → Handling (handled cat rule (with_held s bs) n m) s₁ old old (record { noise = n; class = m.class; id = m.id; verdict = Outside; length = 0 })
-unfolding handled
-outside_handled cat rule s s₁ n m old bs other left =
-    let is = cond-false (eqb m.class configuration_class) (carried_out cat (with_transaction (with_held s bs) (of_kind m.id s.transaction)) n m (judged cat rule (with_transaction (with_held s bs) (of_kind m.id s.transaction)) m)) (record { state = with_held s bs; event = told n m.class m.id Outside [] }) (ne_eqb m.class configuration_class other) in
-    subst (λ (x : Stepped). Handling x s₁ old old (record { noise = n; class = m.class; id = m.id; verdict = Outside; length = 0 })) (sym is)
-    (record { state = left; event = refl; count = refl; buffer = refl })
+  pub request_handled : (cat₁ : Catalogue) (rule₁ : Finding) (s₁ s₂ : State) (bs old out after : List ℕ) (j : Result Granted Refusal) (t : Telling) (end : ℕ) → h.class ≡ configuration_class → cat₁ ≡ cat → rule₁ ≡ rule
+      → s₁ ≡ with_transaction s (of_kind h.id s.transaction) → Judged cat₁ old out (judged cat₁ rule₁ s₁ (message_in s₁.held_bytes h)) j
+      → t ≡ told_by h j → after ≡ patched (reply_length j) (frame_bytes (verdict_on (verdict_id j) h.id)) out → s₂ ≡ after_verdict cat₁ s₁ j → bs ≡ drop end s₂.held_bytes → end ≡ end_of h
+      → Handling (handled_here cat rule s h) (with_held s₂ bs) old after t
+  request_handled cat₁ rule₁ s₁ s₂ bs old out after j t end of-class same-cat same-rule is-cancelled judgement told_is out_is left dropped end_is =
+      subst (λ c. Handling (handled cat rule (with_held s (drop (end_of h) s.held_bytes)) h.noise (as_class c s.held_bytes)) (with_held s₂ bs) old after t) (sym of-class)
+      (request_at cat rule s h.noise h.id h.length (end_of h) cat₁ rule₁ s₁ s₂ (with_held s₂ bs) old out after j t same-cat same-rule is-cancelled
+      (subst (λ c. Judged cat₁ old out (judged cat₁ rule₁ s₁ (as_class c s₁.held_bytes)) j) of-class judgement)
+      (told_is ∙ ap (λ (c : ℕ). record { noise = h.noise; class = c; id = h.id; verdict = verdict_of j; length = reply_length j + 10 }) of-class) out_is left
+      (ap (with_held s₂) (dropped ∙ ap (λ k. drop k s₂.held_bytes) end_is)))
 
-pub dropped_frame : (s : State) (bs old : List ℕ) (n c : ℕ) → bs ≡ drop (n + (6 + c + 2)) old → with_held s bs ≡ with_held s (drop (n + suc (7 + c)) old)
-dropped_frame s bs old n c e =
-    let same : n + (6 + c + 2) ≡ n + suc (7 + c) = omega arith in
-    ap (with_held s) (e ∙ ap (λ k. drop k old) same)
+  -- A frame of another class
+
+  pub outside_handled : (bs old : List ℕ) (t : Telling) (end : ℕ) → (h.class ≡ configuration_class → ⊥) → t ≡ record { noise = h.noise; class = h.class; id = h.id; verdict = Outside; length = 0 }
+      → bs ≡ drop end s.held_bytes → end ≡ end_of h → Handling (handled_here cat rule s h) (with_held s bs) old old t
+  unfolding handled
+  outside_handled bs old t end other told_is dropped end_is =
+      let m : Message = message_in s.held_bytes h in
+      let left : with_held s bs ≡ with_held s (drop (end_of h) s.held_bytes) = ap (with_held s) (dropped ∙ ap (λ k. drop k s.held_bytes) end_is) in
+      let there : State = with_held s (drop (end_of h) s.held_bytes) in
+      let is = cond-false (eqb m.class configuration_class) (carried_out cat (with_transaction there (of_kind m.id s.transaction)) h.noise m (judged cat rule (with_transaction there (of_kind m.id s.transaction)) m)) (record { state = there; event = told h.noise m.class m.id Outside [] }) (ne_eqb m.class configuration_class other) in
+      subst (λ (x : Telling). Handling (handled_here cat rule s h) (with_held s bs) old old x) (sym told_is)
+      (subst (λ (x : Stepped). Handling x (with_held s bs) old old (record { noise = h.noise; class = h.class; id = h.id; verdict = Outside; length = 0 })) (sym is)
+      (record { state = left; event = refl; count = refl; buffer = refl }))
 
 -- An answering
 
 module _ (cat : Catalogue) (rule : Finding) (s : State) where
-  found_so : (s₁ : State) (old out : List ℕ) (a : Answered) (f : First) → FirstIs s.held_bytes f
-      → Answering (answering cat rule (with_held s (first_finding s.held_bytes f).rest) (first_finding s.held_bytes f).skipped (first_finding s.held_bytes f).message) s₁ old out a
+  found_so : (s₁ : State) (old out : List ℕ) (a : Answered) (r : Result HeldFrame ℕ) → FirstIs s.held_bytes r
+      → Answering (answering cat rule (with_held s (first_finding s.held_bytes r).rest) (first_finding s.held_bytes r).skipped (first_finding s.held_bytes r).message) s₁ old out a
       → Answering (answering_of cat rule s) s₁ old out a
-  found_so s₁ old out a f is h = subst (λ (x : Found). Answering (answering cat rule (with_held s x.rest) x.skipped x.message) s₁ old out a) is.value h
+  found_so s₁ old out a r is h = subst (λ (x : Found). Answering (answering cat rule (with_held s x.rest) x.skipped x.message) s₁ old out a) is.value h
 
-  pub first_told : (s₁ : State) (old out : List ℕ) (t : Telling) (f : First) (h : Header) → FirstIs s.held_bytes f → f.frame ≡ Some h
-      → Handling (handled cat rule (with_held s (drop (f.noise + suc (7 + h.length)) s.held_bytes)) f.noise (message_in s.held_bytes f.noise h)) s₁ old out t
-      → Answering (answering_of cat rule s) s₁ old out (Told t)
-  first_told s₁ old out t f h is frame_is handling =
-      found_so s₁ old out (Told t) f is
-      (subst
-      (λ (o : Option Header). Answering (answering cat rule (with_held s (drop (f.noise + size_in o) s.held_bytes)) f.noise (message_found s.held_bytes f.noise o)) s₁ old out (Told t))
-      (sym frame_is) (record { state = handling.state; event = handling.event; count = handling.count; buffer = handling.buffer }))
+  pub first_told : (s₁ : State) (old out : List ℕ) (t : Telling) (h : HeldFrame) → FirstIs s.held_bytes (Ok h) → Handling (handled_here cat rule s h) s₁ old out t → Answering (answering_of cat rule s) s₁ old out (Told t)
+  first_told s₁ old out t h is handling =
+      found_so s₁ old out (Told t) (Ok h) is (record { state = handling.state; event = handling.event; count = handling.count; buffer = handling.buffer })
 
-  pub none_told : (s₁ : State) (old bs : List ℕ) (f : First) → FirstIs s.held_bytes f → f.frame ≡ None → bs ≡ drop f.noise s.held_bytes → s₁ ≡ with_held s bs
-      → Answering (answering_of cat rule s) s₁ old old (NothingWhole f.noise)
-  none_told s₁ old bs f is frame_is dropped left =
-      found_so s₁ old old (NothingWhole f.noise) f is
-      (subst
-      (λ (o : Option Header). Answering (answering cat rule (with_held s (drop (f.noise + size_in o) s.held_bytes)) f.noise (message_found s.held_bytes f.noise o)) s₁ old old (NothingWhole f.noise))
-      (sym frame_is)
-      (record { state = left ∙ ap (with_held s) (dropped ∙ ap (λ k. drop k s.held_bytes) (sym (add-zero f.noise))); event = refl; count = refl; buffer = refl }))
+  pub none_told : (s₁ : State) (old bs : List ℕ) (n : ℕ) → FirstIs s.held_bytes (Err n) → bs ≡ drop n s.held_bytes → s₁ ≡ with_held s bs → Answering (answering_of cat rule s) s₁ old old (NothingWhole n)
+  none_told s₁ old bs n is dropped left =
+      found_so s₁ old old (NothingWhole n) (Err n) is (record { state = left ∙ ap (with_held s) dropped; event = refl; count = refl; buffer = refl })

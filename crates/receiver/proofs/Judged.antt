@@ -1,6 +1,6 @@
 -- From the code's judgement of a frame to the reference's.
 use Rattle.std.proofs.Common.{◌≡◌, ℕ, ◌<◌, ◌≤◌, Bool, true, false, cond, not, ◌||◌, eqb, ltb, List, length, get_or, take, drop, Some, None, Ok, Err, Option, Result, sym, refl, ap, ◌∙◌, subst, arith}
-use Rattle.std.proofs.lemmas.Bool.{eq-eqb, cond-true, cond_both, lt-ltb, le-ltb}
+use Rattle.std.proofs.lemmas.Bool.{eq-eqb, cond-true, cond-false, cond_both, lt-ltb, le-ltb}
 use Rattle.std.proofs.lemmas.List.{take_at}
 use Rattle.frame.specs.Frames.{Message, carrying}
 use Rattle.frame.proofs.Frames.{frame_length}
@@ -24,17 +24,18 @@ keys_paged : (ss : Settings) (p : List ℕ) (r : Result (List ℕ) Refusal) → 
 keys_paged ss p (Ok ks) = refl
 keys_paged ss p (Err e) = refl
 
-over_layer : (cat : Catalogue) (o : Option Settings) (p : List ℕ) → paged cat o p ≡ ok_map reply (page_over cat o p)
-over_layer cat None p = refl
-over_layer cat (Some ss) p = keys_paged ss p (keys_of cat p)
+over_layer : (cat : Catalogue) (o : Option Settings) (p : List ℕ) → 4 ≤ length p → paged cat o p ≡ ok_map reply (page_over cat o p)
+over_layer cat None p long = refl
+over_layer cat (Some ss) p long =
+    keys_paged ss p (keys_of cat p) ∙ ap (ok_map reply) (sym (cond-false (ltb (length p) 4) (Err ShortPayload) (ok_map (page_frame ss p) (keys_of cat p)) (le-ltb (length p) 4 long)))
 
-get_is : (cat : Catalogue) (s : State) (m : Message) → judged_get cat s m ≡ ok_map reply (gotten cat s m.payload)
+get_is : (cat : Catalogue) (s : State) (m : Message) → 4 ≤ length m.payload → judged_get cat s m ≡ ok_map reply (gotten cat s m.payload)
 unfolding judged_get unless
-get_is cat s m = go (ltb 0 (get_or m.payload 0 0))
+get_is cat s m long = go (ltb 0 (get_or m.payload 0 0))
   where
     go : (b : Bool) → unless b UnknownVersion (paged cat (layer_of cat s (get_or m.payload 1 0)) m.payload) ≡ ok_map reply (cond b (Err UnknownVersion) (page_over cat (layer_of cat s (get_or m.payload 1 0)) m.payload))
     go true = refl
-    go false = over_layer cat (layer_of cat s (get_or m.payload 1 0)) m.payload
+    go false = over_layer cat (layer_of cat s (get_or m.payload 1 0)) m.payload long
 
 -- and its bytes are at most those of a frame
 
@@ -51,7 +52,7 @@ few_keys ss p (Err e) = tt
 
 few_over : (cat : Catalogue) (o : Option Settings) (p : List ℕ) → Few (page_over cat o p)
 few_over cat None p = tt
-few_over cat (Some ss) p = few_keys ss p (keys_of cat p)
+few_over cat (Some ss) p = cond_both (ltb (length p) 4) _ _ Few (λ _. tt) (λ _. few_keys ss p (keys_of cat p))
 
 few_gotten : (cat : Catalogue) (s : State) (p : List ℕ) → Few (gotten cat s p)
 few_gotten cat s p = cond_both (ltb 0 (get_or p 0 0)) _ _ Few (λ _. tt) (λ _. few_over cat (layer_of cat s (get_or p 1 0)) p)
@@ -81,14 +82,14 @@ module _ (cat : Catalogue) (rule : Finding) (s : State) (id : ℕ) (p old : List
   abbrev pub either : Result Planned Refusal
   either = cond (eqb id valget) (judged_get cat s request) (judged_change cat rule s request)
 
-  as_get : (out : List ℕ) (r : Result Granted Refusal) → id ≡ valget → Judged cat old out (ok_map reply (gotten cat s p)) r → Judged cat old out either r
-  as_get out r is j = subst (λ (x : Result Planned Refusal). Judged cat old out x r) (sym (cond-true (eqb id valget) _ _ (eq-eqb id valget is) ∙ get_is cat s request)) j
+  as_get : (out : List ℕ) (r : Result Granted Refusal) → 4 ≤ length p → id ≡ valget → Judged cat old out (ok_map reply (gotten cat s p)) r → Judged cat old out either r
+  as_get out r long is j = subst (λ (x : Result Planned Refusal). Judged cat old out x r) (sym (cond-true (eqb id valget) _ _ (eq-eqb id valget is) ∙ get_is cat s request long)) j
 
-  pub got : (out : List ℕ) (n : ℕ) → id ≡ valget → Ok n ≡ ok_map length (gotten cat s p) → out ≡ in_front_if_made (gotten cat s p) old → Judged cat old out either (Ok (Reply n))
-  got out n is e o = as_get out (Ok (Reply n)) is (reply_judged cat old out (gotten cat s p) n (few_gotten cat s p) e o)
+  pub got : (out : List ℕ) (n : ℕ) → 4 ≤ length p → id ≡ valget → Ok n ≡ ok_map length (gotten cat s p) → out ≡ in_front_if_made (gotten cat s p) old → Judged cat old out either (Ok (Reply n))
+  got out n long is e o = as_get out (Ok (Reply n)) long is (reply_judged cat old out (gotten cat s p) n (few_gotten cat s p) e o)
 
-  pub not_got : (out : List ℕ) (f : Refusal) → id ≡ valget → Err f ≡ ok_map length (gotten cat s p) → out ≡ in_front_if_made (gotten cat s p) old → Judged cat old out either (Err f)
-  not_got out f is e o = as_get out (Err f) is (reply_refused cat old out (gotten cat s p) f e o)
+  pub not_got : (out : List ℕ) (f : Refusal) → 4 ≤ length p → id ≡ valget → Err f ≡ ok_map length (gotten cat s p) → out ≡ in_front_if_made (gotten cat s p) old → Judged cat old out either (Err f)
+  not_got out f long is e o = as_get out (Err f) long is (reply_refused cat old out (gotten cat s p) f e o)
 
   -- the checks before all others
   pub judged_request : (out : List ℕ) (r : Result Granted Refusal) (b : Bool) → b ≡ (eqb id valset || (eqb id valget || eqb id valdel)) → b ≡ true → 4 ≤ length p

@@ -1,5 +1,5 @@
 -- What handling a frame comes to.
-use Rattle.std.specs.Prelude.{◌≡◌, ℕ, List, length, take, Ok, Err, Result}
+use Rattle.std.specs.Prelude.{◌≡◌, ℕ, List, length, take, drop, Ok, Err, Result}
 use Rattle.frame.specs.Written.{in_front}
 use Rattle.reference.specs.declared.answered.Telling.{Telling}
 use Rattle.reference.specs.declared.fault.CallFault.{CallFault}
@@ -9,7 +9,13 @@ use Rattle.frame.specs.Scanning.{finding}
 use Rattle.rule.specs.Rules.{Finding as Rule}
 use Rattle.reference.specs.Requests.{Catalogue}
 use Rattle.reference.specs.Events.{Event, told, written_by, answered_event}
-use Rattle.reference.specs.Receiver.{State, Stepped, with_held, answering}
+use Rattle.reference.specs.Receiver.{State, Stepped, with_held, handled, answering}
+use Rattle.receiver.specs.declared.first.HeldFrame.{HeldFrame}
+use Rattle.receiver.specs.First.{message_in, end_of}
+
+-- what handling a frame that is heard comes to
+abbrev pub handled_here : Catalogue → Rule → State → HeldFrame → Stepped
+handled_here cat rule s h = handled cat rule (with_held s (drop (end_of h) s.held_bytes)) h.noise (message_in s.held_bytes h)
 
 abbrev pub telling_event : List ℕ → Telling → Event
 telling_event buffer t = told t.noise t.class t.id t.verdict (take t.length buffer)

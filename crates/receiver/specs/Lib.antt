@@ -1,6 +1,6 @@
 pub mod First
 pub mod Handled
-pub mod Made
+pub mod Named
 pub mod Plans
 pub mod Small
 pub mod State

@@ -2,7 +2,7 @@
 use Rattle.std.specs.Prelude.{◌≡◌, ℕ, ◌+◌, ◌≤◌, cond, List, [], length, take, Some, None, Ok, Err, Option, Result, ◌==◌, nat_lt, slice_index}
 use Rattle.rule.specs.Rules.{Finding}
 use Rattle.reference.specs.declared.layers.Layers.{Layers}
-use Rattle.reference.specs.Requests.{Catalogue, Changes, and_later, ok_map, keys_of, configuration_class}
+use Rattle.reference.specs.Requests.{Catalogue, Changes, and_later}
 use Rattle.catalogue.specs.declared.entries.Entry.{Entry}
 use Rattle.request.specs.Changes.{changes_by}
 use Rattle.reference.specs.declared.refusal.Refusal.{Refusal}
@@ -12,13 +12,14 @@ use Rattle.reference.specs.declared.refusal.Verdict.TheVariants.{Ack, Nak}
 use Rattle.reference.specs.declared.answered.Telling.{Telling}
 use Rattle.reference.specs.Stores.{Settings}
 use Rattle.frame.specs.Written.{in_front}
-use Rattle.page.specs.Pages.{page_frame}
+use Rattle.page.specs.Pages.{page_bytes}
 use Rattle.reference.specs.Receiver.{State, with_transaction, applied, apply, queue, reply, layer_of, apply_fault, applying, queue_of}
 use Rattle.reference.specs.Receiver.{Plan as Planned}
 use Rattle.receiver.specs.declared.transaction.Granted.{Granted}
 use Rattle.receiver.specs.declared.transaction.Granted.TheVariants.{Change, Reply}
 use Rattle.receiver.specs.declared.transaction.Plan.{Plan}
 use Rattle.receiver.specs.declared.transaction.Plan.TheVariants.{Apply, Queue}
+use Rattle.receiver.specs.declared.first.HeldFrame.{HeldFrame}
 use Rattle.receiver.specs.State.{opened_of}
 
 abbrev pub plan_of : List Entry → Plan → Planned
@@ -43,7 +44,7 @@ planned_with cat rule s id l a d =
 -- A get: the bytes of its reply, or why it is refused
 abbrev pub page_over : Catalogue → Option Settings → List ℕ → Result (List ℕ) Refusal
 page_over cat None p = Err WrongLayer
-page_over cat (Some ss) p = ok_map (page_frame ss p) (keys_of cat p)
+page_over cat (Some ss) p = page_bytes cat ss p
 
 abbrev pub gotten : Catalogue → State → List ℕ → Result (List ℕ) Refusal
 gotten cat s p = cond (nat_lt 0 (slice_index p 0)) (Err UnknownVersion) (page_over cat (layer_of cat s (slice_index p 1)) p)
@@ -86,8 +87,8 @@ verdict_id (Ok g) = 1
 verdict_id (Err r) = 0
 
 -- how the frame is told; a verdict's frame has 10 bytes
-abbrev pub told_by : ℕ → ℕ → Result Granted Refusal → Telling
-told_by noise id r = record { noise = noise; class = configuration_class; id = id; verdict = verdict_of r; length = reply_length r + 10 }
+abbrev pub told_by : HeldFrame → Result Granted Refusal → Telling
+told_by h r = record { noise = h.noise; class = h.class; id = h.id; verdict = verdict_of r; length = reply_length r + 10 }
 
 -- the state that is left: a refusal cancels
 abbrev pub after_grant : List Entry → State → Granted → State

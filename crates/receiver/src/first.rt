@@ -1,39 +1,62 @@
 // The first frame in the held bytes, as numbers: nothing of the bytes stays lent, so that the receiver can be changed before the frame is read.
-ghost use Rattle.receiver.specs.First.{FirstIs};
+ghost use Rattle.std.specs.Prelude.{◌≡◌, ◌+◌, ◌<◌, ◌^◌, ◌≤◌, length, take, drop};
+ghost use Rattle.receiver.specs.First.{FirstIs, end_of};
 
-use frame::find;
+use frame::{HEADER, TRAILER, find};
+use reference::{Telling, Verdict};
 
-// A frame's class and ID, and how many bytes its payload has.
+// A frame where it is heard in bytes: the noise before it, its class and ID, and how many bytes its payload has.
 #[derive(Clone, Copy)]
-pub(crate) struct Header {
+pub(crate) struct HeldFrame {
+    pub noise: usize,
     pub class: u8,
     pub id: u8,
     pub length: usize,
 }
 
-// How many bytes of noise stand before the first frame heard or undecided place, and that frame.
-#[derive(Clone, Copy)]
-pub(crate) struct First {
-    pub noise: usize,
-    pub frame: Option<Header>,
+impl HeldFrame {
+    // Its payload, which is a part of the bytes.
+    pub(crate) fn payload(self, bytes: &[u8]) -> &[u8]
+        requires { end_of self ≤ length bytes.now }
+        ensures { result.now ≡ take self.length (drop (self.noise + 6) bytes.now) }
+    {
+        let start = self.noise + HEADER;
+        &bytes[start..start + self.length]
+    }
+
+    // The place behind it.
+    pub(crate) fn end(self) -> usize
+        requires { end_of self < 2 ^ 64 }
+        ensures { result ≡ end_of self }
+    {
+        self.noise + (HEADER + self.length + TRAILER)
+    }
+
+    // How it is told.
+    pub(crate) fn told(self, verdict: Verdict, length: usize) -> Telling
+        ensures { result ≡ record { noise = self.noise; class = self.class; id = self.id; verdict = verdict; length = length } }
+    {
+        Telling {
+            noise: self.noise,
+            class: self.class,
+            id: self.id,
+            verdict,
+            length,
+        }
+    }
 }
 
-pub(crate) fn first_in(bytes: &[u8]) -> First
+// The first frame that is heard; else how much noise there is.
+pub(crate) fn first_in(bytes: &[u8]) -> Result<HeldFrame, usize>
     ensures { FirstIs bytes.now result }
 {
     let found = find(bytes);
-    match found.frame {
-        Some(frame) => First {
-            noise: found.noise,
-            frame: Some(Header {
-                class: frame.class,
-                id: frame.id,
-                length: frame.payload.len(),
-            }),
-        },
-        None => First {
-            noise: found.noise,
-            frame: None,
-        },
-    }
+    let noise = found.noise;
+    let frame = found.frame.ok_or(noise)?;
+    Ok(HeldFrame {
+        noise,
+        class: frame.class,
+        id: frame.id,
+        length: frame.payload.len(),
+    })
 }

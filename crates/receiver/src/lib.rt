@@ -2,6 +2,8 @@
 // Every call is answered as the reference receiver answers it, in every state. After making nothing allocates.
 //
 // state.rt        a receiver
+//   meaning.rt    what a receiver is to the reference, for contracts
+//   named.rt      the layers by their numbers
 //   making.rt     making one of its parts, and taking it apart
 //   calls.rt      taking, looking, restarting
 //   handling.rt   answering
@@ -20,3 +22,4 @@ mod verdict;
 pub use state::Receiver;
 pub use state::handling::ANSWER_ROOM;
 pub use state::making::Parts;
+pub use state::meaning::{Meaning, PartsMeaning};

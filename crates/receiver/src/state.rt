@@ -11,6 +11,8 @@ pub mod getting;
 pub mod handling;
 pub mod judging;
 pub mod making;
+pub mod meaning;
+pub mod named;
 
 #[derive(Drop)]
 pub struct Receiver<B: Store, F: Store, R: Rule> {

@@ -19,13 +19,7 @@ pub(crate) fn write_verdict(out: &mut [u8], place: usize, verdict: u8, id: u8) -
     ensures next { result ≡ place + 10 }
     ensures out { out.new ≡ patched place (frame_bytes (verdict_on verdict id)) out.old }
 {
-    match write_frame(
-        &mut out[place..],
-        VERDICT_CLASS,
-        verdict,
-        &[CONFIGURATION_CLASS, id],
-    ) {
-        Ok(size) => place + size,
-        Err(_) => place,
-    }
+    let payload = [CONFIGURATION_CLASS, id];
+    let size = write_frame(&mut out[place..], VERDICT_CLASS, verdict, &payload).unwrap_or(0);
+    place + size
 }

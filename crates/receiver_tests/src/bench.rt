@@ -2,7 +2,7 @@
 use catalogue::bench_catalogue;
 use frame::write_frame;
 use layer::Absent;
-use receiver::Receiver;
+use receiver::{ANSWER_ROOM, Parts, Receiver};
 use reference::{Answered, Telling};
 use rule::{Both, Need, Needs, Ranges};
 use std::process::Abort;
@@ -27,16 +27,32 @@ pub(crate) fn bench_rule() -> Both<Ranges, Needs> {
     }
 }
 
+pub(crate) fn bench_parts() -> Parts<SlotTable, Absent, Both<Ranges, Needs>> {
+    Parts {
+        bbr: SlotTable::new(),
+        flash: Absent,
+        rule: bench_rule(),
+    }
+}
+
 pub(crate) fn bench() -> Bench {
-    Receiver::make(&bench_catalogue(), SlotTable::new(), Absent, bench_rule())
+    Receiver::make(&bench_catalogue(), bench_parts())
 }
 
 // How the frame was told that an answering told.
 pub(crate) fn telling_of(answered: Answered) -> Result<Telling, Fail> {
-    match answered {
-        Answered::Told(telling) => Ok(telling),
-        Answered::NothingWhole(_) => Err(Fail::new("no frame is whole")),
-    }
+    let Answered::Told(telling) = answered else {
+        return Err(Fail::new("no frame is whole"));
+    };
+    Ok(telling)
+}
+
+// How much noise was dropped by an answering that found no whole frame.
+pub(crate) fn noise_of(answered: Answered) -> Result<usize, Fail> {
+    let Answered::NothingWhole(noise) = answered else {
+        return Err(Fail::new("a frame was told"));
+    };
+    Ok(noise)
 }
 
 // The receiver takes these bytes and answers them with those; answers the refusal's number, 0 where the frame is granted.
@@ -46,11 +62,11 @@ pub(crate) fn exchange(
     line: &[u8],
     reply: &[u8],
 ) -> Result<u8, Fail> {
-    let mut out = [0u8; 790];
+    let mut out = [0u8; ANSWER_ROOM];
     assert_eq!(rt; receiver.take(line)?, line.len());
     let telling = telling_of(receiver.answer(&mut out)?)?;
     assert_eq!(rt; telling.length, reply.len());
-    let count = reply.len().min(790);
+    let count = reply.len().min(ANSWER_ROOM);
     assert!(rt; &out[0..count] == reply);
     Ok(telling.verdict.number())
 }
@@ -66,17 +82,16 @@ pub(crate) fn send(
     let size = write_frame(&mut line, 0x06, id, payload)?;
     let count = size.min(40);
     assert_eq!(rt; receiver.take(&line[0..count])?, size);
-    let mut out = [0u8; 790];
+    let mut out = [0u8; ANSWER_ROOM];
     let telling = telling_of(receiver.answer(&mut out)?)?;
     Ok(telling.verdict.number())
 }
 
 // The number of the refusal of an answering with room for so many bytes, 0 where it is served.
 pub(crate) fn answer_number(receiver: &mut Bench, room: usize) -> u8 {
-    let mut out = [0u8; 790];
-    let count = room.min(790);
-    match receiver.answer(&mut out[0..count]) {
-        Ok(_) => 0,
-        Err(fault) => fault.number(),
-    }
+    let mut out = [0u8; ANSWER_ROOM];
+    let count = room.min(ANSWER_ROOM);
+    receiver
+        .answer(&mut out[0..count])
+        .map_or_else(|fault| fault.number(), |_| 0)
 }

@@ -1,6 +1,7 @@
 // One frame at a time: what is written for it, and what the layers hold then.
-use crate::bench::{ADDRESS, RAM, answer_number, bench, exchange, telling_of};
-use reference::{Answered, Verdict};
+use crate::bench::{ADDRESS, RAM, answer_number, bench, exchange, noise_of, telling_of};
+use receiver::ANSWER_ROOM;
+use reference::Verdict;
 use std::test::Fail;
 
 // A set: 66 under the key 20510001, in RAM. Its ACK, and the same with 5, which is out of range.
@@ -40,20 +41,18 @@ fn a_set_is_acknowledged(rt: HostRuntime) -> Result<(), Fail> {
 #[test]
 fn a_value_out_of_range_is_refused(rt: HostRuntime) -> Result<(), Fail> {
     let mut receiver = bench();
-    let mut out = [0u8; 790];
+    let mut out = [0u8; ANSWER_ROOM];
     assert_eq!(rt; receiver.take(&UNFIT)?, 17);
     let telling = telling_of(receiver.answer(&mut out)?)?;
     assert_eq!(rt; telling.noise, 0);
     assert_eq!(rt; telling.length, 10);
     assert!(rt; &out[0..10] == SET_NAK.as_slice());
     assert!(rt; &out[10..20] == [0; 10].as_slice());
-    match telling.verdict {
-        Verdict::Nak(refusal) => {
-            assert_eq!(rt; refusal.number(), 21);
-            assert_eq!(rt; refusal.place(), 2);
-        }
-        _ => assert!(rt; false),
-    }
+    let Verdict::Nak(refusal) = telling.verdict else {
+        return Err(Fail::new("the frame got no NAK"));
+    };
+    assert_eq!(rt; refusal.number(), 21);
+    assert_eq!(rt; refusal.place(), 2);
     assert_eq!(rt; receiver.look(RAM, ADDRESS)?, Some(65));
     Ok(())
 }
@@ -81,24 +80,13 @@ fn a_buffer_needs_790_bytes(rt: HostRuntime) -> Result<(), Fail> {
 #[test]
 fn a_frame_behind_noise_in_two_pieces(rt: HostRuntime) -> Result<(), Fail> {
     let mut receiver = bench();
-    let mut out = [0u8; 790];
+    let mut out = [0u8; ANSWER_ROOM];
     receiver.take(&[0x00, 0xb5, 0x00])?;
     receiver.take(&SET[0..9])?;
-    match receiver.answer(&mut out)? {
-        Answered::NothingWhole(noise) => assert_eq!(rt; noise, 3),
-        Answered::Told(_) => assert!(rt; false),
-    }
+    assert_eq!(rt; noise_of(receiver.answer(&mut out)?)?, 3);
     receiver.take(&SET[9..17])?;
     receiver.take(&[0xff])?;
     assert_eq!(rt; telling_of(receiver.answer(&mut out)?)?.noise, 0);
-    match receiver.answer(&mut out)? {
-        Answered::NothingWhole(noise) => {
-            assert_eq!(rt; noise, 1);
-            Ok(())
-        },
-        Answered::Told(_) => {
-            assert!(rt; false);
-            Ok(())
-        },
-    }
+    assert_eq!(rt; noise_of(receiver.answer(&mut out)?)?, 1);
+    Ok(())
 }

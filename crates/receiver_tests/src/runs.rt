@@ -1,13 +1,12 @@
 // Several frames, restarts, replays, and a receiver that is shut.
-use crate::bench::{ADDRESS, BBR, RAM, bench, bench_rule, send};
+use crate::bench::{ADDRESS, BBR, RAM, bench, bench_parts, bench_rule, send};
 use catalogue::bench_catalogue;
 use layer::Absent;
-use receiver::Receiver;
+use receiver::{ANSWER_ROOM, Parts, Receiver};
 use reference::{Battery, Call};
 use replay::{Event, replay};
 use request::{VALGET, VALSET};
 use std::test::Fail;
-use store::SlotTable;
 
 // A set of 5 under the key 20510001, in BBR alone.
 const INTO_BBR: [u8; 9] = [0x00, 0x02, 0x00, 0x00, 0x01, 0x00, 0x51, 0x20, 0x05];
@@ -74,23 +73,16 @@ fn a_log_has_an_event_for_each_call(rt: HostRuntime) -> Result<(), Fail> {
         Call::Look(RAM, ADDRESS),
         Call::Restart(Battery::Lost),
     ];
-    let done = replay(
-        rt.alloc(),
-        &bench_catalogue(),
-        SlotTable::new(),
-        Absent,
-        bench_rule(),
-        &calls,
-    )?;
+    let done = replay(rt.alloc(), &bench_catalogue(), bench_parts(), &calls)?;
     assert!(rt; done.log.len() == 5);
-    match done.log[1] {
-        Event::Refused(_, fault) => assert_eq!(rt; fault.number(), 9),
-        _ => assert!(rt; false),
-    }
-    match done.log[2] {
-        Event::NothingWhole(noise) => assert_eq!(rt; noise, 2),
-        _ => assert!(rt; false),
-    }
+    let Event::Refused(_, fault) = done.log[1] else {
+        return Err(Fail::new("a buffer that is too short was not refused"));
+    };
+    assert_eq!(rt; fault.number(), 9);
+    let Event::NothingWhole(noise) = done.log[2] else {
+        return Err(Fail::new("a frame was found in noise"));
+    };
+    assert_eq!(rt; noise, 2);
     assert_eq!(rt; done.receiver.look(RAM, ADDRESS)?, Some(65));
     Ok(())
 }
@@ -98,28 +90,22 @@ fn a_log_has_an_event_for_each_call(rt: HostRuntime) -> Result<(), Fail> {
 // A receiver without BBR is shut, and refuses every call.
 #[test]
 fn a_shut_receiver_refuses_every_call(rt: HostRuntime) -> Result<(), Fail> {
-    let mut receiver = Receiver::make(&bench_catalogue(), Absent, Absent, bench_rule());
-    let mut out = [0u8; 790];
-    match receiver.take(&[0x00]) {
-        Ok(_) => assert!(rt; false),
-        Err(fault) => assert_eq!(rt; fault.number(), 8),
-    }
-    match receiver.answer(&mut out) {
-        Ok(_) => assert!(rt; false),
-        Err(fault) => assert_eq!(rt; fault.number(), 8),
-    }
-    match receiver.look(RAM, ADDRESS) {
-        Ok(_) => assert!(rt; false),
-        Err(fault) => assert_eq!(rt; fault.number(), 8),
-    }
-    match receiver.restart(Battery::Kept) {
-        Ok(_) => {
-            assert!(rt; false);
-            Ok(())
-        },
-        Err(fault) => {
-            assert_eq!(rt; fault.number(), 8);
-            Ok(())
-        },
-    }
+    let parts = Parts {
+        bbr: Absent,
+        flash: Absent,
+        rule: bench_rule(),
+    };
+    let mut receiver = Receiver::make(&bench_catalogue(), parts);
+    let mut out = [0u8; ANSWER_ROOM];
+    let taken = receiver.take(&[0x00]);
+    assert_eq!(rt; taken.map_err(|fault| fault.number()), Err(8));
+    let Err(fault) = receiver.answer(&mut out) else {
+        return Err(Fail::new("a shut receiver answered"));
+    };
+    assert_eq!(rt; fault.number(), 8);
+    let seen = receiver.look(RAM, ADDRESS);
+    assert_eq!(rt; seen.map_err(|fault| fault.number()), Err(8));
+    let restarted = receiver.restart(Battery::Kept);
+    assert_eq!(rt; restarted.map_err(|fault| fault.number()), Err(8));
+    Ok(())
 }

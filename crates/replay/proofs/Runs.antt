@@ -170,7 +170,3 @@ module _ (p : Parts) (cat : Catalogue) (rule : Finding) (cs : List Asking) (item
         state = ap (λ (r : Run). r.state) whole;
         law = λ ok. subst (λ (r : Run). Law p r.history r.state.ram.settings r.state.bbr.settings r.state.flash.settings) (sym whole) (law ok cs);
       }
-
-pub made_so : {A E : Type 0} (r : Result A E) (P Q : A → Type 0) → ((x : A) → P x → Q x) → IfOk r P → IfOk r Q
-made_so (Ok x) P Q f h = f x h
-made_so (Err e) P Q f h = h

@@ -2,16 +2,14 @@
 ghost use Rattle.std.specs.Prelude.{◌≡◌, ◌≤◌, min, [], map, length, IfOk};
 ghost use Rattle.reference.specs.Events.{asking_of, answer_into, answered_event};
 ghost use Rattle.receiver.specs.Handled.{answered_length, length_of};
-ghost use Rattle.reference.specs.Stores.{store_of};
-ghost use Rattle.reference.specs.Parts.{parts_of};
 ghost use Rattle.reference.specs.Receiver.{run_from};
-ghost use Rattle.receiver.specs.State.{items_of, state_of, step_of, Kept, answer_event};
+ghost use Rattle.receiver.specs.State.{items_of, Kept, answer_event};
 ghost use Rattle.replay.specs.Logs.{event_of, run_of, Replays};
 
 use crate::event::Event;
 use catalogue::Entry;
 use layer::Store;
-use receiver::{ANSWER_ROOM, Receiver};
+use receiver::{ANSWER_ROOM, Meaning, Parts, PartsMeaning, Receiver};
 use reference::{Answered, Call, CallFault};
 use rule::Rule;
 use std::alloc::{AllocError, Global};
@@ -62,8 +60,8 @@ fn answer_into<'a, B: Store, F: Store, R: Rule>(
     out: &mut [u8],
 ) -> Result<Event<'a>, AllocError>
     requires { length out.old ≡ min room 790 }
-    ensures after { state_of B.Store.usable B.Layer.settings F.Store.usable F.Layer.settings receiver.new ≡ (step_of B.Store.usable B.Layer.settings F.Store.usable F.Layer.settings R.Rule.finding receiver.old (answer_into room)).state }
-    ensures event { IfOk result (λ e. event_of e ≡ (step_of B.Store.usable B.Layer.settings F.Store.usable F.Layer.settings R.Rule.finding receiver.old (answer_into room)).event) }
+    ensures after { ⟦<Receiver<B, F, R> as Meaning>⟧.state receiver.new ≡ (⟦<Receiver<B, F, R> as Meaning>⟧.step receiver.old (answer_into room)).state }
+    ensures event { IfOk result (λ e. event_of e ≡ (⟦<Receiver<B, F, R> as Meaning>⟧.step receiver.old (answer_into room)).event) }
     ensures kept { Kept receiver.old receiver.new }
 {
     let answer = receiver.answer(out);
@@ -76,11 +74,11 @@ fn carry_answer<'a, B: Store, F: Store, R: Rule>(
     receiver: &mut Receiver<B, F, R>,
     room: usize,
 ) -> Result<Event<'a>, AllocError>
-    ensures after { state_of B.Store.usable B.Layer.settings F.Store.usable F.Layer.settings receiver.new ≡ (step_of B.Store.usable B.Layer.settings F.Store.usable F.Layer.settings R.Rule.finding receiver.old (answer_into room)).state }
-    ensures event { IfOk result (λ e. event_of e ≡ (step_of B.Store.usable B.Layer.settings F.Store.usable F.Layer.settings R.Rule.finding receiver.old (answer_into room)).event) }
+    ensures after { ⟦<Receiver<B, F, R> as Meaning>⟧.state receiver.new ≡ (⟦<Receiver<B, F, R> as Meaning>⟧.step receiver.old (answer_into room)).state }
+    ensures event { IfOk result (λ e. event_of e ≡ (⟦<Receiver<B, F, R> as Meaning>⟧.step receiver.old (answer_into room)).event) }
     ensures kept { Kept receiver.old receiver.new }
 {
-    let mut buffer = [0u8; 790];
+    let mut buffer = [0u8; ANSWER_ROOM];
     let count = room.min(ANSWER_ROOM);
     answer_into(heap, receiver, room, &mut buffer[0..count])
 }
@@ -91,10 +89,11 @@ fn carry_call<'a, B: Store, F: Store, R: Rule>(
     receiver: &mut Receiver<B, F, R>,
     call: Call<'a>,
 ) -> Result<Event<'a>, AllocError>
-    ensures after { state_of B.Store.usable B.Layer.settings F.Store.usable F.Layer.settings receiver.new ≡ (step_of B.Store.usable B.Layer.settings F.Store.usable F.Layer.settings R.Rule.finding receiver.old (asking_of call.entry)).state }
-    ensures event { IfOk result (λ e. event_of e ≡ (step_of B.Store.usable B.Layer.settings F.Store.usable F.Layer.settings R.Rule.finding receiver.old (asking_of call.entry)).event) }
+    ensures after { ⟦<Receiver<B, F, R> as Meaning>⟧.state receiver.new ≡ (⟦<Receiver<B, F, R> as Meaning>⟧.step receiver.old (asking_of call.entry)).state }
+    ensures event { IfOk result (λ e. event_of e ≡ (⟦<Receiver<B, F, R> as Meaning>⟧.step receiver.old (asking_of call.entry)).event) }
     ensures kept { Kept receiver.old receiver.new }
 {
+    // kept: a closure cannot make these events (its result would name a lifetime that nothing it captures names), so each arm has its refusal
     match call {
         Call::Take(piece) => match receiver.take(piece) {
             Ok(count) => Ok(Event::Took(piece, count)),
@@ -106,7 +105,7 @@ fn carry_call<'a, B: Store, F: Store, R: Rule>(
             Err(fault) => Ok(Event::Refused(call, fault)),
         },
         Call::Restart(battery) => match receiver.restart(battery) {
-            Ok(fault) => Ok(Event::Restarted(battery, fault)),
+            Ok(item) => Ok(Event::Restarted(battery, item)),
             Err(fault) => Ok(Event::Refused(call, fault)),
         },
     }
@@ -115,12 +114,11 @@ fn carry_call<'a, B: Store, F: Store, R: Rule>(
 // All calls, in their order.
 fn carry_all<'a, B: Store + Drop, F: Store + Drop, R: Rule + Drop>(
     heap: Global,
-    receiver: Receiver<B, F, R>,
+    mut receiver: Receiver<B, F, R>,
     calls: &[Call<'a>],
 ) -> Result<Replayed<'a, B, F, R>, AllocError>
-    ensures { IfOk result (λ x. run_of x.log.items (state_of B.Store.usable B.Layer.settings F.Store.usable F.Layer.settings x.receiver) ≡ run_from (items_of receiver) (R.Rule.finding receiver.rule) (record { state = state_of B.Store.usable B.Layer.settings F.Store.usable F.Layer.settings receiver; history = [] }) (map asking_of calls.now)) }
+    ensures { IfOk result (λ x. run_of x.log.items (⟦<Receiver<B, F, R> as Meaning>⟧.state x.receiver) ≡ run_from (items_of receiver) (R.Rule.finding receiver.rule) (record { state = ⟦<Receiver<B, F, R> as Meaning>⟧.state receiver; history = [] }) (map asking_of calls.now)) }
 {
-    let mut receiver = receiver;
     let mut log = Vec::new(heap);
     for call in calls {
         let event = carry_call(heap, &mut receiver, *call)?;
@@ -134,12 +132,10 @@ fn carry_all<'a, B: Store + Drop, F: Store + Drop, R: Rule + Drop>(
 pub fn replay<'a, B: Store + Drop, F: Store + Drop, R: Rule + Drop>(
     heap: Global,
     entries: &[Entry],
-    bbr: B,
-    flash: F,
-    rule: R,
+    parts: Parts<B, F, R>,
     calls: &[Call<'a>],
 ) -> Result<Replayed<'a, B, F, R>, AllocError>
-    ensures { IfOk result (λ x. Replays (parts_of entries.now (R.Rule.finding rule) (store_of B.Store.usable B.Layer.settings bbr) (store_of F.Store.usable F.Layer.settings flash)) (map asking_of calls.now) x.log.items (state_of B.Store.usable B.Layer.settings F.Store.usable F.Layer.settings x.receiver)) }
+    ensures { IfOk result (λ x. Replays (⟦<Parts<B, F, R> as PartsMeaning>⟧.with parts entries.now) (map asking_of calls.now) x.log.items (⟦<Receiver<B, F, R> as Meaning>⟧.state x.receiver)) }
 {
-    carry_all(heap, Receiver::make(entries, bbr, flash, rule), calls)
+    carry_all(heap, Receiver::make(entries, parts), calls)
 }

@@ -1,13 +1,11 @@
 // The calls of a receiver.
 ghost use Rattle.std.specs.Prelude.{◌≡◌, length};
-ghost use Rattle.std.specs.Option.{option_map};
-ghost use Rattle.layer.specs.Settings.{value_under};
 ghost use Rattle.reference.specs.Events.{take_piece, look_at, restart_with};
 ghost use Rattle.reference.specs.Requests.{is_known};
-ghost use Rattle.reference.specs.Receiver.{layer_of};
-ghost use Rattle.receiver.specs.State.{items_of, state_of, step_of, Kept, took_event, looked_event, restarted_event};
+ghost use Rattle.receiver.specs.State.{items_of, Kept, took_event, looked_event, restarted_event};
 
 use super::Receiver;
+use super::meaning::Meaning;
 use configuration::{after_battery, is_known, stack_ram};
 use held::Held;
 use layer::{Layer, Store};
@@ -17,8 +15,8 @@ use rule::Rule;
 impl<B: Store, F: Store, R: Rule> Receiver<B, F, R> {
     // Takes bytes from the front of a piece until it ends or 780 are held; answers how many.
     pub fn take(&mut self, piece: &[u8]) -> Result<usize, CallFault>
-        ensures after { state_of B.Store.usable B.Layer.settings F.Store.usable F.Layer.settings self.new ≡ (step_of B.Store.usable B.Layer.settings F.Store.usable F.Layer.settings R.Rule.finding self.old (take_piece piece.now)).state }
-        ensures event { took_event piece.now result ≡ (step_of B.Store.usable B.Layer.settings F.Store.usable F.Layer.settings R.Rule.finding self.old (take_piece piece.now)).event }
+        ensures after { ⟦<Self as Meaning>⟧.state self.new ≡ (⟦<Self as Meaning>⟧.step self.old (take_piece piece.now)).state }
+        ensures event { took_event piece.now result ≡ (⟦<Self as Meaning>⟧.step self.old (take_piece piece.now)).event }
         ensures kept { Kept self.old self.new }
     {
         if self.shut {
@@ -27,28 +25,9 @@ impl<B: Store, F: Store, R: Rule> Receiver<B, F, R> {
         Ok(self.held.append(piece))
     }
 
-    // What a layer holds under a key; none where there is no such layer, or a Flash that is not usable.
-    fn held_in(&self, layer: u8, key: u32) -> Option<Option<u64>>
-        ensures { result ≡ option_map (value_under key) (layer_of (items_of self.now) (state_of B.Store.usable B.Layer.settings F.Store.usable F.Layer.settings self.now) layer) }
-    {
-        match layer {
-            0 => Some(self.ram.value(key)),
-            1 => Some(self.layers.upper.upper.value(key)),
-            2 => {
-                if self.layers.upper.lower.is_usable() {
-                    Some(self.layers.upper.lower.value(key))
-                } else {
-                    None
-                }
-            }
-            7 => Some(self.layers.lower.value(key)),
-            _ => None,
-        }
-    }
-
     // How many bytes are held.
     pub fn held_count(&self) -> usize
-        ensures { result ≡ length (state_of B.Store.usable B.Layer.settings F.Store.usable F.Layer.settings self.now).held_bytes }
+        ensures { result ≡ length (⟦<Self as Meaning>⟧.state self.now).held_bytes }
     {
         self.held.as_slice().len()
     }
@@ -62,28 +41,23 @@ impl<B: Store, F: Store, R: Rule> Receiver<B, F, R> {
 
     // What a layer (0 RAM, 1 BBR, 2 Flash, 7 the defaults) holds under the key of an item.
     pub fn look(&self, layer: u8, key: u32) -> Result<Option<u64>, CallFault>
-        ensures { looked_event layer key result ≡ (step_of B.Store.usable B.Layer.settings F.Store.usable F.Layer.settings R.Rule.finding self.now (look_at layer key)).event }
+        ensures { looked_event layer key result ≡ (⟦<Self as Meaning>⟧.step self.now (look_at layer key)).event }
     {
         if self.shut {
             return Err(CallFault::Shut);
         }
-        match self.held_in(layer, key) {
-            Some(value) => {
-                if self.knows(key) {
-                    Ok(value)
-                } else {
-                    Err(CallFault::UnknownKey)
-                }
-            }
-            None => Err(CallFault::WrongLayer),
+        let layer = self.layer(layer).ok_or(CallFault::WrongLayer)?;
+        if !self.knows(key) {
+            return Err(CallFault::UnknownKey);
         }
+        Ok(layer.value(key))
     }
 
     // Drops the held bytes and the transaction, clears BBR where the battery was lost, and stacks RAM anew; answers the item at fault where
     // the stack was unfit, so that RAM is the defaults alone.
     pub fn restart(&mut self, battery: Battery) -> Result<Option<usize>, CallFault>
-        ensures after { state_of B.Store.usable B.Layer.settings F.Store.usable F.Layer.settings self.new ≡ (step_of B.Store.usable B.Layer.settings F.Store.usable F.Layer.settings R.Rule.finding self.old (restart_with battery)).state }
-        ensures event { restarted_event battery result ≡ (step_of B.Store.usable B.Layer.settings F.Store.usable F.Layer.settings R.Rule.finding self.old (restart_with battery)).event }
+        ensures after { ⟦<Self as Meaning>⟧.state self.new ≡ (⟦<Self as Meaning>⟧.step self.old (restart_with battery)).state }
+        ensures event { restarted_event battery result ≡ (⟦<Self as Meaning>⟧.step self.old (restart_with battery)).event }
         ensures kept { Kept self.old self.new }
     {
         if self.shut {

@@ -5,34 +5,22 @@ ghost use Rattle.frame.specs.Written.{patched};
 ghost use Rattle.catalogue.specs.Owned.{entries_of};
 ghost use Rattle.reference.specs.Stores.{store_of};
 ghost use Rattle.request.specs.Changes.{changes_by};
-ghost use Rattle.reference.specs.Requests.{configuration_class};
 ghost use Rattle.reference.specs.Receiver.{with_transaction, written_if, applied, of_kind};
-ghost use Rattle.receiver.specs.State.{items_of, state_of, Kept};
+ghost use Rattle.receiver.specs.State.{items_of, Kept};
 ghost use Rattle.receiver.specs.Written.{verdict_on};
 ghost use Rattle.receiver.specs.Plans.{after_plan, after_grant, after_verdict, grant_length, reply_length, verdict_id, told_by};
 
 use super::Receiver;
+use super::meaning::Meaning;
+use crate::first::HeldFrame;
 use crate::transaction::{Granted, Plan};
 use crate::verdict::{ACK, NAK, write_verdict};
 use catalogue::Catalogue;
 use configuration::apply_changes;
 use layer::Store;
 use reference::{Layers, Refusal, Telling, Verdict};
-use request::{CONFIGURATION_CLASS, ItemChanges};
+use request::ItemChanges;
 use rule::Rule;
-
-// How a frame of the configuration class is told.
-fn told(noise: usize, id: u8, verdict: Verdict, length: usize) -> Telling
-    ensures { result ≡ record { noise = noise; class = configuration_class; id = id; verdict = verdict; length = length } }
-{
-    Telling {
-        noise,
-        class: CONFIGURATION_CLASS,
-        id,
-        verdict,
-        length,
-    }
-}
 
 // Changes a layer where it is chosen.
 fn apply_if<S: Store>(chosen: bool, catalogue: &Catalogue, changes: &ItemChanges, store: &mut S)
@@ -46,7 +34,7 @@ fn apply_if<S: Store>(chosen: bool, catalogue: &Catalogue, changes: &ItemChanges
 impl<B: Store, F: Store, R: Rule> Receiver<B, F, R> {
     // Changes the chosen layers, RAM first, then BBR, then Flash, and ends the transaction.
     fn apply(&mut self, layers: Layers, changes: &ItemChanges)
-        ensures after { state_of B.Store.usable B.Layer.settings F.Store.usable F.Layer.settings self.new ≡ applied (items_of self.old) (state_of B.Store.usable B.Layer.settings F.Store.usable F.Layer.settings self.old) layers (changes_by (items_of self.old) changes.now.slots) }
+        ensures after { ⟦<Self as Meaning>⟧.state self.new ≡ applied (items_of self.old) (⟦<Self as Meaning>⟧.state self.old) layers (changes_by (items_of self.old) changes.now.slots) }
         ensures kept { Kept self.old self.new }
     {
         let catalogue = &self.layers.lower.catalogue;
@@ -65,7 +53,7 @@ impl<B: Store, F: Store, R: Rule> Receiver<B, F, R> {
 
     // What a granted set or delete is to do.
     fn carry_out(&mut self, plan: Plan)
-        ensures after { state_of B.Store.usable B.Layer.settings F.Store.usable F.Layer.settings self.new ≡ after_plan (items_of self.old) (state_of B.Store.usable B.Layer.settings F.Store.usable F.Layer.settings self.old) plan }
+        ensures after { ⟦<Self as Meaning>⟧.state self.new ≡ after_plan (items_of self.old) (⟦<Self as Meaning>⟧.state self.old) plan }
         ensures kept { Kept self.old self.new }
     {
         match plan {
@@ -76,20 +64,16 @@ impl<B: Store, F: Store, R: Rule> Receiver<B, F, R> {
 
     // A transaction of another kind ends before a frame with this ID is judged.
     pub(crate) fn cancel_other_kind(&mut self, id: u8)
-        ensures after { state_of B.Store.usable B.Layer.settings F.Store.usable F.Layer.settings self.new ≡ with_transaction (state_of B.Store.usable B.Layer.settings F.Store.usable F.Layer.settings self.old) (of_kind id (state_of B.Store.usable B.Layer.settings F.Store.usable F.Layer.settings self.old).transaction) }
+        ensures after { ⟦<Self as Meaning>⟧.state self.new ≡ with_transaction (⟦<Self as Meaning>⟧.state self.old) (of_kind id (⟦<Self as Meaning>⟧.state self.old).transaction) }
         ensures kept { Kept self.old self.new }
     {
-        if let Some(transaction) = self.transaction {
-            if transaction.id != id {
-                self.transaction = None;
-            }
-        }
+        self.transaction = self.transaction.filter(|transaction| transaction.id == id);
     }
 
     // What a granted frame comes to; answers how many bytes of a reply stand in the buffer.
     fn grant(&mut self, granted: Granted) -> usize
         ensures value { result ≡ grant_length granted }
-        ensures after { state_of B.Store.usable B.Layer.settings F.Store.usable F.Layer.settings self.new ≡ after_grant (items_of self.old) (state_of B.Store.usable B.Layer.settings F.Store.usable F.Layer.settings self.old) granted }
+        ensures after { ⟦<Self as Meaning>⟧.state self.new ≡ after_grant (items_of self.old) (⟦<Self as Meaning>⟧.state self.old) granted }
         ensures kept { Kept self.old self.new }
     {
         match granted {
@@ -104,28 +88,27 @@ impl<B: Store, F: Store, R: Rule> Receiver<B, F, R> {
     // Carries out the judgement and writes its verdict. Every refusal cancels the transaction.
     pub(crate) fn conclude(
         &mut self,
-        noise: usize,
-        id: u8,
+        frame: HeldFrame,
         judged: Result<Granted, Refusal>,
         out: &mut [u8],
     ) -> Telling
         requires room { 790 ≤ length out.old }
         requires few { reply_length judged ≤ 780 }
-        ensures value { result ≡ told_by noise id judged }
-        ensures out { out.new ≡ patched (reply_length judged) (frame_bytes (verdict_on (verdict_id judged) id)) out.old }
-        ensures after { state_of B.Store.usable B.Layer.settings F.Store.usable F.Layer.settings self.new ≡ after_verdict (items_of self.old) (state_of B.Store.usable B.Layer.settings F.Store.usable F.Layer.settings self.old) judged }
+        ensures value { result ≡ told_by frame judged }
+        ensures out { out.new ≡ patched (reply_length judged) (frame_bytes (verdict_on (verdict_id judged) frame.id)) out.old }
+        ensures after { ⟦<Self as Meaning>⟧.state self.new ≡ after_verdict (items_of self.old) (⟦<Self as Meaning>⟧.state self.old) judged }
         ensures kept { Kept self.old self.new }
     {
         match judged {
             Ok(granted) => {
                 let place = self.grant(granted);
-                let length = write_verdict(out, place, ACK, id);
-                told(noise, id, Verdict::Ack, length)
+                let length = write_verdict(out, place, ACK, frame.id);
+                frame.told(Verdict::Ack, length)
             }
             Err(refusal) => {
                 self.transaction = None;
-                let length = write_verdict(out, 0, NAK, id);
-                told(noise, id, Verdict::Nak(refusal), length)
+                let length = write_verdict(out, 0, NAK, frame.id);
+                frame.told(Verdict::Nak(refusal), length)
             }
         }
     }

@@ -7,10 +7,11 @@ ghost use Rattle.request.specs.Head.{opened_layers};
 ghost use Rattle.reference.specs.Requests.{configuration_class, valset, valget, valdel, and_later};
 ghost use Rattle.reference.specs.Receiver.{apply_fault, applying, queue_of, planned, judged_change, judged_get, judged};
 ghost use Rattle.std.specs.Option.{option_map};
-ghost use Rattle.receiver.specs.State.{opened_of, items_of, state_of};
+ghost use Rattle.receiver.specs.State.{opened_of, items_of};
 ghost use Rattle.receiver.specs.Plans.{judgement_of, planned_with, Judged};
 
 use super::Receiver;
+use super::meaning::Meaning;
 use crate::transaction::{Granted, Plan, Transaction};
 use configuration::{apply_changes, fault_in};
 use layer::Store;
@@ -28,7 +29,7 @@ fn is_request(id: u8) -> bool
 impl<B: Store, F: Store, R: Rule> Receiver<B, F, R> {
     // The item at fault in the RAM that applying would leave. It is tried on a copy.
     fn fault_of(&self, layers: Layers, changes: &ItemChanges) -> Option<usize>
-        ensures { result ≡ apply_fault (items_of self.now) (R.Rule.finding self.now.rule) (state_of B.Store.usable B.Layer.settings F.Store.usable F.Layer.settings self.now) layers (changes_by (items_of self.now) changes.now.slots) }
+        ensures { result ≡ apply_fault (items_of self.now) (R.Rule.finding self.now.rule) (⟦<Self as Meaning>⟧.state self.now) layers (changes_by (items_of self.now) changes.now.slots) }
     {
         if layers.ram {
             let mut ram = self.ram.copied();
@@ -41,22 +42,20 @@ impl<B: Store, F: Store, R: Rule> Receiver<B, F, R> {
 
     // Applying, where RAM would stay fit.
     fn plan_to_apply(&self, layers: Layers, changes: ItemChanges) -> Result<Plan, Refusal>
-        ensures { judgement_of (items_of self.now) result ≡ applying (apply_fault (items_of self.now) (R.Rule.finding self.now.rule) (state_of B.Store.usable B.Layer.settings F.Store.usable F.Layer.settings self.now) layers (changes_by (items_of self.now) changes.slots)) layers (changes_by (items_of self.now) changes.slots) }
+        ensures { judgement_of (items_of self.now) result ≡ applying (apply_fault (items_of self.now) (R.Rule.finding self.now.rule) (⟦<Self as Meaning>⟧.state self.now) layers (changes_by (items_of self.now) changes.slots)) layers (changes_by (items_of self.now) changes.slots) }
     {
-        match self.fault_of(layers, &changes) {
-            None => Ok(Plan::Apply(layers, changes)),
-            Some(item) => Err(Refusal::Unfit(item)),
+        if let Some(item) = self.fault_of(layers, &changes) {
+            return Err(Refusal::Unfit(item));
         }
+        Ok(Plan::Apply(layers, changes))
     }
 
     // What is queued; nothing where no transaction is open.
     fn queue(&self) -> ItemChanges
         ensures { changes_by (items_of self.now) result.slots ≡ queue_of (option_map (opened_of (items_of self.now)) self.now.transaction) }
     {
-        match self.transaction {
-            Some(transaction) => transaction.queue,
-            None => ItemChanges::none(),
-        }
+        self.transaction
+            .map_or(ItemChanges::none(), |transaction| transaction.queue)
     }
 
     // What an action 0, 1 or 2 does with the data of its frame.
@@ -67,7 +66,7 @@ impl<B: Store, F: Store, R: Rule> Receiver<B, F, R> {
         action: u8,
         changes: ItemChanges,
     ) -> Result<Plan, Refusal>
-        ensures { judgement_of (items_of self.now) result ≡ planned_with (items_of self.now) (R.Rule.finding self.now.rule) (state_of B.Store.usable B.Layer.settings F.Store.usable F.Layer.settings self.now) id layers action (changes_by (items_of self.now) changes.slots) }
+        ensures { judgement_of (items_of self.now) result ≡ planned_with (items_of self.now) (R.Rule.finding self.now.rule) (⟦<Self as Meaning>⟧.state self.now) id layers action (changes_by (items_of self.now) changes.slots) }
     {
         if action == 0 {
             return self.plan_to_apply(layers, changes);
@@ -90,7 +89,7 @@ impl<B: Store, F: Store, R: Rule> Receiver<B, F, R> {
 
     // What an action does with the data of its frame and those queued. An action 3 does not read its own.
     fn plan(&self, id: u8, payload: &[u8], layers: Layers, action: u8) -> Result<Plan, Refusal>
-        ensures { judgement_of (items_of self.now) result ≡ planned (items_of self.now) (R.Rule.finding self.now.rule) (state_of B.Store.usable B.Layer.settings F.Store.usable F.Layer.settings self.now) (carrying configuration_class id payload.now) layers action }
+        ensures { judgement_of (items_of self.now) result ≡ planned (items_of self.now) (R.Rule.finding self.now.rule) (⟦<Self as Meaning>⟧.state self.now) (carrying configuration_class id payload.now) layers action }
     {
         if action > 2 {
             let queue = self.queue();
@@ -104,56 +103,50 @@ impl<B: Store, F: Store, R: Rule> Receiver<B, F, R> {
 
     // A set or a delete.
     fn judge_change(&self, id: u8, payload: &[u8]) -> Result<Plan, Refusal>
-        ensures { judgement_of (items_of self.now) result ≡ judged_change (items_of self.now) (R.Rule.finding self.now.rule) (state_of B.Store.usable B.Layer.settings F.Store.usable F.Layer.settings self.now) (carrying configuration_class id payload.now) }
+        ensures { judgement_of (items_of self.now) result ≡ judged_change (items_of self.now) (R.Rule.finding self.now.rule) (⟦<Self as Meaning>⟧.state self.now) (carrying configuration_class id payload.now) }
     {
         let usable = self.layers.upper.lower.is_usable();
-        match head_refusal(id, payload, usable, self.opened_layers()) {
-            Some(refusal) => Err(refusal),
-            None => self.plan(id, payload, layers_of(id, payload), action_of(payload)),
+        let refusal = head_refusal(id, payload, usable, self.opened_layers());
+        if let Some(refusal) = refusal {
+            return Err(refusal);
         }
+        let layers = layers_of(id, payload);
+        self.plan(id, payload, layers, action_of(payload))
     }
 
     // The layers that the open transaction was opened for.
     fn opened_layers(&self) -> Option<Layers>
         ensures { result ≡ opened_layers (option_map (opened_of (items_of self.now)) self.now.transaction) }
     {
-        match self.transaction {
-            Some(transaction) => Some(transaction.layers),
-            None => None,
-        }
+        self.transaction.map(|transaction| transaction.layers)
     }
 
     // A set, a delete or a get whose payload has a head.
     fn judge_request(&self, id: u8, payload: &[u8], out: &mut [u8]) -> Result<Granted, Refusal>
         requires room { 790 ≤ length out.old }
         requires long { 4 ≤ length payload.now }
-        ensures { Judged (items_of self.now) out.old out.new (if nat_eq id valget then judged_get (items_of self.now) (state_of B.Store.usable B.Layer.settings F.Store.usable F.Layer.settings self.now) (carrying configuration_class id payload.now) else judged_change (items_of self.now) (R.Rule.finding self.now.rule) (state_of B.Store.usable B.Layer.settings F.Store.usable F.Layer.settings self.now) (carrying configuration_class id payload.now)) result }
+        ensures { Judged (items_of self.now) out.old out.new (if nat_eq id valget then judged_get (items_of self.now) (⟦<Self as Meaning>⟧.state self.now) (carrying configuration_class id payload.now) else judged_change (items_of self.now) (R.Rule.finding self.now.rule) (⟦<Self as Meaning>⟧.state self.now) (carrying configuration_class id payload.now)) result }
     {
         if id == VALGET {
-            match self.judge_get(payload, out) {
-                Ok(length) => Ok(Granted::Reply(length)),
-                Err(refusal) => Err(refusal),
-            }
+            let length = self.judge_get(payload, out)?;
+            Ok(Granted::Reply(length))
         } else {
-            match self.judge_change(id, payload) {
-                Ok(plan) => Ok(Granted::Change(plan)),
-                Err(refusal) => Err(refusal),
-            }
+            let plan = self.judge_change(id, payload)?;
+            Ok(Granted::Change(plan))
         }
     }
 
     // Any frame of the configuration class.
     pub(crate) fn judge(&self, id: u8, payload: &[u8], out: &mut [u8]) -> Result<Granted, Refusal>
         requires { 790 ≤ length out.old }
-        ensures { Judged (items_of self.now) out.old out.new (judged (items_of self.now) (R.Rule.finding self.now.rule) (state_of B.Store.usable B.Layer.settings F.Store.usable F.Layer.settings self.now) (carrying configuration_class id payload.now)) result }
+        ensures { Judged (items_of self.now) out.old out.new (judged (items_of self.now) (R.Rule.finding self.now.rule) (⟦<Self as Meaning>⟧.state self.now) (carrying configuration_class id payload.now)) result }
     {
-        if is_request(id) {
-            if payload.len() < 4 {
-                return Err(Refusal::ShortPayload);
-            }
-            self.judge_request(id, payload, out)
-        } else {
-            Err(Refusal::OtherId)
+        if !is_request(id) {
+            return Err(Refusal::OtherId);
         }
+        if payload.len() < 4 {
+            return Err(Refusal::ShortPayload);
+        }
+        self.judge_request(id, payload, out)
     }
 }

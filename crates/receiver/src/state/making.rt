@@ -3,13 +3,13 @@ ghost use Rattle.std.specs.Prelude.{◌≡◌, [], if◌then◌else◌, None};
 ghost use Rattle.catalogue.specs.Owned.{entries_of};
 ghost use Rattle.store.specs.Slots.{settings_of};
 ghost use Rattle.reference.specs.Stores.{store_of, held};
-ghost use Rattle.reference.specs.Parts.{parts_of, parts_fault, stacked};
+ghost use Rattle.reference.specs.Parts.{parts_fault, stacked};
 ghost use Rattle.reference.specs.Receiver.{made};
 ghost use Rattle.reference.specs.Promise.{LawOf};
-ghost use Rattle.receiver.specs.State.{items_of, state_of};
-ghost use Rattle.receiver.specs.Made.{is_faulty};
+ghost use Rattle.receiver.specs.State.{items_of};
 
 use super::Receiver;
+use super::meaning::{Meaning, PartsMeaning};
 use catalogue::Entry;
 use configuration::{check, stack_ram};
 use held::Held;
@@ -17,21 +17,11 @@ use layer::{Stack, Store};
 use rule::Rule;
 use store::{CatalogueDefaults, SlotTable};
 
-// What a receiver was made of, but for the catalogue, which it copied.
+// What a receiver is made of, but for the catalogue, which it copies.
 pub struct Parts<B, F, R> {
     pub bbr: B,
     pub flash: F,
     pub rule: R,
-}
-
-// Whether the check refuses the parts.
-fn is_refused<B: Store, F: Store, R: Rule>(entries: &[Entry], bbr: &B, flash: &F, rule: &R) -> bool
-    ensures { result ≡ is_faulty (parts_fault (parts_of entries.now (R.Rule.finding rule.now) (store_of B.Store.usable B.Layer.settings bbr.now) (store_of F.Store.usable F.Layer.settings flash.now))) }
-{
-    match check(entries, bbr, flash, rule) {
-        Ok(()) => false,
-        Err(_) => true,
-    }
 }
 
 // RAM as it is stacked, or empty in a shut receiver.
@@ -43,21 +33,22 @@ fn first_ram<B: Store, F: Store, R: Rule>(
     ensures { settings_of result.slots ≡ (if shut then [] else stacked (entries_of layers.now.lower.catalogue) (R.Rule.finding rule.now) (held (store_of B.Store.usable B.Layer.settings layers.now.upper.upper)) (held (store_of F.Store.usable F.Layer.settings layers.now.upper.lower))) }
 {
     if shut {
-        return SlotTable::new();
+        SlotTable::new()
+    } else {
+        stack_ram(layers, rule).ram
     }
-    let stacked = stack_ram(layers, rule);
-    stacked.ram
 }
 
 impl<B: Store, F: Store, R: Rule> Receiver<B, F, R> {
     // Copies the catalogue, takes over the stores and the rule, and stacks RAM. Parts that the check refuses make a shut receiver.
-    pub fn make(entries: &[Entry], bbr: B, flash: F, rule: R) -> Receiver<B, F, R>
-        ensures state { state_of B.Store.usable B.Layer.settings F.Store.usable F.Layer.settings result ≡ made (parts_of entries.now (R.Rule.finding rule) (store_of B.Store.usable B.Layer.settings bbr) (store_of F.Store.usable F.Layer.settings flash)) }
-        ensures items { parts_fault (parts_of entries.now (R.Rule.finding rule) (store_of B.Store.usable B.Layer.settings bbr) (store_of F.Store.usable F.Layer.settings flash)) ≡ None → items_of result ≡ entries.now }
-        ensures rule { result.rule ≡ rule }
-        ensures law { LawOf (parts_of entries.now (R.Rule.finding rule) (store_of B.Store.usable B.Layer.settings bbr) (store_of F.Store.usable F.Layer.settings flash)) }
+    pub fn make(entries: &[Entry], parts: Parts<B, F, R>) -> Receiver<B, F, R>
+        ensures state { ⟦<Self as Meaning>⟧.state result ≡ made (⟦<Parts<B, F, R> as PartsMeaning>⟧.with parts entries.now) }
+        ensures items { parts_fault (⟦<Parts<B, F, R> as PartsMeaning>⟧.with parts entries.now) ≡ None → items_of result ≡ entries.now }
+        ensures rule { result.rule ≡ parts.rule }
+        ensures law { LawOf (⟦<Parts<B, F, R> as PartsMeaning>⟧.with parts entries.now) }
     {
-        let shut = is_refused(entries, &bbr, &flash, &rule);
+        let shut = check(entries, &parts.bbr, &parts.flash, &parts.rule).is_err();
+        let Parts { bbr, flash, rule } = parts;
         let layers = Stack {
             upper: Stack {
                 upper: bbr,
@@ -78,23 +69,18 @@ impl<B: Store, F: Store, R: Rule> Receiver<B, F, R> {
 
     // Gives back the stores, with what they hold now, and the rule.
     pub fn into_parts(self) -> Parts<B, F, R>
-        ensures bbr { store_of B.Store.usable B.Layer.settings result.bbr ≡ (state_of B.Store.usable B.Layer.settings F.Store.usable F.Layer.settings self).bbr }
-        ensures flash { store_of F.Store.usable F.Layer.settings result.flash ≡ (state_of B.Store.usable B.Layer.settings F.Store.usable F.Layer.settings self).flash }
+        ensures bbr { store_of B.Store.usable B.Layer.settings result.bbr ≡ (⟦<Self as Meaning>⟧.state self).bbr }
+        ensures flash { store_of F.Store.usable F.Layer.settings result.flash ≡ (⟦<Self as Meaning>⟧.state self).flash }
         ensures rule { result.rule ≡ self.rule }
     {
-        let Receiver {
-            shut: _,
-            held: _,
-            layers,
-            rule,
-            ram: _,
-            transaction: _,
-        } = self;
-        let Stack { upper, lower: _ } = layers;
+        let Receiver { layers, rule, .. } = self;
         let Stack {
-            upper: bbr,
-            lower: flash,
-        } = upper;
+            upper: Stack {
+                upper: bbr,
+                lower: flash,
+            },
+            ..
+        } = layers;
         Parts { bbr, flash, rule }
     }
 }

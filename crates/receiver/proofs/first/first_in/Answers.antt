@@ -1,9 +1,15 @@
 use Rattle.std.proofs.Common.{rules}
-use Rattle.receiver.proofs.Found.{found_frame, found_none}
+use Rattle.std.proofs.lemmas.Result.{err_from_is_err_and}
+use Rattle.receiver.proofs.Found.{found_frame, found_err}
 use Rattle.receiver.proofs.first.first_in.Goals as goal
 
-pub returns-in-Some : goal.returns-in-Some
-returns-in-Some c = search (rules, found_frame)
+pub returns-in_err-frame : goal.returns-in_err-frame
+returns-in_err-frame c =
+    let p = err_from_is_err_and c.from_residual.result c.from_residual.ensures.1 in
+    let told = c.in_err-frame.ensures in
+    rw (p.1, p.2) (search (rules, found_err))
 
-pub returns-in-None : goal.returns-in-None
-returns-in-None c = search (rules, found_none)
+pub returns : goal.returns
+returns c =
+    let told = c.in_ok-frame.ensures in
+    search (rules, found_frame)

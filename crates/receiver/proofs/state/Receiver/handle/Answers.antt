@@ -1,6 +1,26 @@
-use Rattle.std.proofs.Common.{rules}
-use Rattle.receiver.proofs.Handled.{outside_handled}
+use Rattle.std.proofs.Common.{ap}
+use Rattle.held.specs.Meaning.{bytes_held}
+use Rattle.receiver.specs.State.{items_of, state_of}
+use Rattle.receiver.proofs.Handled.{request_handled, outside_handled}
 use Rattle.receiver.proofs.state.Receiver.handle.Goals as goal
 
-pub returns-else-header-eq-CONFIGURATION_CLASS : goal.returns-else-header-eq-CONFIGURATION_CLASS
-returns-else-header-eq-CONFIGURATION_CLASS g c = search (rules, outside_handled)
+pub returns-then-frame-ne-CONFIGURATION_CLASS-clause-handling : goal.returns-then-frame-ne-CONFIGURATION_CLASS-clause-handling
+returns-then-frame-ne-CONFIGURATION_CLASS-clause-handling g c =
+    let before = c.args.self.now in
+    outside_handled (items_of before) (g.R.Rule.finding before.rule) (state_of g.B.Store.usable g.B.Layer.settings g.F.Store.usable g.F.Layer.settings before) c.args.frame
+    (bytes_held c.skip.new.self) c.args.out.now c.told.result c.end.result c.if-frame-ne-CONFIGURATION_CLASS.true c.told.ensures c.skip.ensures c.end.ensures
+
+pub returns-clause-handling : goal.returns-clause-handling
+returns-clause-handling g c =
+    let before = c.args.self.now in
+    let cancelled = c.cancel_other_kind.new.self in
+    let concluded = c.conclude-telling.new.self in
+    let cancelling = c.cancel_other_kind.ensures in
+    let concluding = c.conclude-telling.ensures in
+    request_handled (items_of before) (g.R.Rule.finding before.rule) (state_of g.B.Store.usable g.B.Layer.settings g.F.Store.usable g.F.Layer.settings before) c.args.frame
+    (items_of cancelled) (g.R.Rule.finding cancelled.rule)
+    (state_of g.B.Store.usable g.B.Layer.settings g.F.Store.usable g.F.Layer.settings cancelled)
+    (state_of g.B.Store.usable g.B.Layer.settings g.F.Store.usable g.F.Layer.settings concluded) (bytes_held c.skip-2.new.self) c.args.out.now
+    c.judge_held-judged.new.out c.conclude-telling.new.out c.judge_held-judged.result c.conclude-telling.result c.end-2.result c.if-frame-ne-CONFIGURATION_CLASS.false
+    cancelling.kept.items (ap g.R.Rule.finding cancelling.kept.rule) cancelling.after c.judge_held-judged.ensures concluding.value concluding.out concluding.after
+    c.skip-2.ensures c.end-2.ensures

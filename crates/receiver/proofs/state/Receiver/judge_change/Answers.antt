@@ -7,7 +7,7 @@ returns-in-Some g c =
     let told = c.in-Some.ensures in
     search (rules, head_refused)
 
-pub returns-in-None : goal.returns-in-None
-returns-in-None g c =
-    let told = c.in-None.ensures in
+pub returns : goal.returns
+returns g c =
+    let told = c.in_default.ensures in
     search (rules, head_passed)

@@ -8,17 +8,18 @@ use Rattle.receiver.proofs.state.Receiver.make.Goals as goal
 
 pub returns : goal.returns
 returns g c =
-    let bbr = c.args.bbr in
-    let flash = c.args.flash in
+    let parts = c.args.parts in
+    let bbr = parts.bbr in
+    let flash = parts.flash in
     record {
       state = search (rules, made_is);
       items =
           items_are
-          (parts_of c.args.entries.now (g.R.Rule.finding c.args.rule) (store_of g.B.Store.usable g.B.Layer.settings bbr) (store_of g.F.Store.usable g.F.Layer.settings flash))
+          (parts_of c.args.entries.now (g.R.Rule.finding parts.rule) (store_of g.B.Store.usable g.B.Layer.settings bbr) (store_of g.F.Store.usable g.F.Layer.settings flash))
           (entries_of c.new.result.catalogue) c.new.ensures.entries;
       rule = refl;
       law =
-          law_follows c.args.entries.now (g.R.Rule.finding c.args.rule) (g.B.Store.usable bbr) (g.F.Store.usable flash) (g.B.Layer.settings bbr) (g.F.Layer.settings flash)
+          law_follows c.args.entries.now (g.R.Rule.finding parts.rule) (g.B.Store.usable bbr) (g.F.Store.usable flash) (g.B.Layer.settings bbr) (g.F.Layer.settings flash)
           (g.met.B.Layer.ascends bbr) (g.met.B.Layer.sound bbr) (g.met.B.Store.shows bbr)
           (g.met.F.Layer.ascends flash) (g.met.F.Layer.sound flash) (g.met.F.Store.shows flash);
     }
