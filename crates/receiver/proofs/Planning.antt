@@ -13,6 +13,9 @@ use Rattle.reference.specs.Receiver.{State, Plan, written, configuration, and_th
 use Rattle.catalogue.specs.declared.entries.Entry.{Entry}
 use Rattle.std.specs.Option.{option_map}
 use Rattle.request.specs.declared.change.Change.{Change}
+use Rattle.request.specs.declared.action.Action.{Action}
+use Rattle.request.specs.declared.action.Action.TheVariants.{Apply, Open, Add, Close}
+use Rattle.request.specs.Actions.{action_number}
 use Rattle.request.specs.Changes.{no_change, changes_by}
 use Rattle.receiver.specs.declared.transaction.Transaction.{Transaction}
 use Rattle.receiver.specs.State.{opened_of}
@@ -47,6 +50,18 @@ read_refused : (r : Result Data Refusal) (x : Refusal) (F : Changes → Result P
 read_refused (Ok y) x F e = let z : ◌≡◌ {A = ℕ} 0 1 = cc in absurd (omega arith)
 read_refused (Err y) x F e = let same : x ≡ y = cc in ap Err same
 
+pub reads_none : (a : Action) → a ≡ Close → 2 < action_number a
+reads_none Apply e = absurd (cc)
+reads_none Open e = absurd (cc)
+reads_none Add e = absurd (cc)
+reads_none Close e = omega arith
+
+pub reads_on : (a : Action) → (a ≡ Close → ⊥) → action_number a ≤ 2
+reads_on Apply not = omega arith
+reads_on Open not = omega arith
+reads_on Add not = omega arith
+reads_on Close not = absurd (not refl)
+
 module _ (cat : Catalogue) (rule : Finding) (s : State) (m : Message) (l : Layers) where
   -- actions 0, 1 and 2 read their data
   reads : (a : ℕ) → a ≤ 2 → planned cat rule s m l a ≡ and_then (data_of cat m.id m.payload) (λ x. planned_with cat rule s m.id l a (latest x))
@@ -72,6 +87,14 @@ later_queue z q q' d e is = e ∙ ap (λ (x : Changes). and_later x d) is
 
 -- The checks of the head come first
 
+refused_by : (o : Option Refusal) (f : Refusal) → ◌≡◌ {A = Result (Unit {0}) Refusal} (Err f) (after_head o (Ok tt)) → Some f ≡ o
+refused_by None f e = absurd (cc)
+refused_by (Some x) f e = cc
+
+passed_by : (o : Option Refusal) → ◌≡◌ {A = Result (Unit {0}) Refusal} (Ok tt) (after_head o (Ok tt)) → None ≡ o
+passed_by None e = refl
+passed_by (Some x) e = absurd (cc)
+
 module _ (cat : Catalogue) (rule : Finding) (s : State) (m : Message) where
   -- what is planned, behind the checks of the head
   behind_head : Option Refusal → Result Plan Refusal
@@ -82,11 +105,12 @@ module _ (cat : Catalogue) (rule : Finding) (s : State) (m : Message) where
     unfolding behind_head
     head_is o e = ap behind_head (e ∙ ap₂ (head_refusal m.id m.payload) is-usable is-opened) ∙ sym (judged_change_lem cat rule s m)
 
-    pub head_refused : (f : Refusal) → Some f ≡ head_refusal m.id m.payload u opened → Err f ≡ judged_change cat rule s m
+    pub head_refused : (f : Refusal) → ◌≡◌ {A = Result (Unit {0}) Refusal} (Err f) (after_head (head_refusal m.id m.payload u opened) (Ok tt))
+        → Err f ≡ judged_change cat rule s m
     unfolding behind_head
-    head_refused f e = head_is (Some f) e
+    head_refused f e = head_is (Some f) (refused_by (head_refusal m.id m.payload u opened) f e)
 
-    pub head_passed : (r : Result Plan Refusal) (l : Layers) (a : ℕ) → None ≡ head_refusal m.id m.payload u opened
+    pub head_passed : (r : Result Plan Refusal) (l : Layers) (a : ℕ) → ◌≡◌ {A = Result (Unit {0}) Refusal} (Ok tt) (after_head (head_refusal m.id m.payload u opened) (Ok tt))
         → l ≡ layers_of m.id m.payload → a ≡ action_of m.payload → r ≡ planned cat rule s m l a → r ≡ judged_change cat rule s m
     unfolding behind_head
-    head_passed r l a e is at f = f ∙ ap₂ (planned cat rule s m) is at ∙ head_is None e
+    head_passed r l a e is at f = f ∙ ap₂ (planned cat rule s m) is at ∙ head_is None (passed_by (head_refusal m.id m.payload u opened) e)

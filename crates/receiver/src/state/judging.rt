@@ -3,6 +3,7 @@
 ghost use Rattle.std.specs.Prelude.{◌≡◌, ◌≤◌, ◌||◌, length, if◌then◌else◌, ◌==◌, nat_eq};
 ghost use Rattle.frame.specs.Frames.{carrying};
 ghost use Rattle.request.specs.Changes.{changes_by};
+ghost use Rattle.request.specs.Actions.{action_number};
 ghost use Rattle.request.specs.Head.{opened_layers};
 ghost use Rattle.reference.specs.Requests.{configuration_class, valset, valget, valdel, and_later};
 ghost use Rattle.reference.specs.Receiver.{apply_fault, applying, queue_of, planned, judged_change, judged_get, judged};
@@ -16,7 +17,9 @@ use crate::transaction::{Granted, Plan, Transaction};
 use configuration::{apply_changes, fault_in};
 use layer::Store;
 use reference::{Layers, Refusal};
-use request::{ItemChanges, VALDEL, VALGET, VALSET, action_of, head_refusal, layers_of, read_data};
+use request::{
+    Action, ItemChanges, VALDEL, VALGET, VALSET, action_of, check_head, layers_of, read_data,
+};
 use rule::Rule;
 
 // Whether an ID is that of one of the three requests.
@@ -58,23 +61,20 @@ impl<B: Store, F: Store, R: Rule> Receiver<B, F, R> {
             .map_or(ItemChanges::none(), |transaction| transaction.queue)
     }
 
-    // What an action 0, 1 or 2 does with the data of its frame.
+    // What an action that reads the data of its frame does with them.
     fn plan_with(
         &self,
         id: u8,
         layers: Layers,
-        action: u8,
+        action: Action,
         changes: ItemChanges,
     ) -> Result<Plan, Refusal>
-        ensures { judgement_of (items_of self.now) result ≡ planned_with (items_of self.now) (R.Rule.finding self.now.rule) (⟦<Self as Meaning>⟧.state self.now) id layers action (changes_by (items_of self.now) changes.slots) }
+        ensures { judgement_of (items_of self.now) result ≡ planned_with (items_of self.now) (R.Rule.finding self.now.rule) (⟦<Self as Meaning>⟧.state self.now) id layers (action_number action) (changes_by (items_of self.now) changes.slots) }
     {
-        if action == 0 {
-            return self.plan_to_apply(layers, changes);
-        }
-        let queue = if action == 1 {
-            changes
-        } else {
-            self.queue_with(&changes)
+        let queue = match action {
+            Action::Apply => return self.plan_to_apply(layers, changes),
+            Action::Open => changes,
+            Action::Add | Action::Close => self.queue_with(&changes),
         };
         Ok(Plan::Queue(Transaction { id, layers, queue }))
     }
@@ -87,18 +87,16 @@ impl<B: Store, F: Store, R: Rule> Receiver<B, F, R> {
         queue.and_later(changes)
     }
 
-    // What an action does with the data of its frame and those queued. An action 3 does not read its own.
-    fn plan(&self, id: u8, payload: &[u8], layers: Layers, action: u8) -> Result<Plan, Refusal>
-        ensures { judgement_of (items_of self.now) result ≡ planned (items_of self.now) (R.Rule.finding self.now.rule) (⟦<Self as Meaning>⟧.state self.now) (carrying configuration_class id payload.now) layers action }
+    // What an action does with the data of its frame and those queued. Closing does not read its own.
+    fn plan(&self, id: u8, payload: &[u8], layers: Layers, action: Action) -> Result<Plan, Refusal>
+        ensures { judgement_of (items_of self.now) result ≡ planned (items_of self.now) (R.Rule.finding self.now.rule) (⟦<Self as Meaning>⟧.state self.now) (carrying configuration_class id payload.now) layers (action_number action) }
     {
-        if action > 2 {
+        if let Action::Close = action {
             let queue = self.queue();
             return self.plan_to_apply(layers, queue);
         }
-        match read_data(&self.layers.lower.catalogue, id, payload) {
-            Ok(changes) => self.plan_with(id, layers, action, changes),
-            Err(refusal) => Err(refusal),
-        }
+        let changes = read_data(&self.layers.lower.catalogue, id, payload)?;
+        self.plan_with(id, layers, action, changes)
     }
 
     // A set or a delete.
@@ -106,10 +104,7 @@ impl<B: Store, F: Store, R: Rule> Receiver<B, F, R> {
         ensures { judgement_of (items_of self.now) result ≡ judged_change (items_of self.now) (R.Rule.finding self.now.rule) (⟦<Self as Meaning>⟧.state self.now) (carrying configuration_class id payload.now) }
     {
         let usable = self.layers.upper.lower.is_usable();
-        let refusal = head_refusal(id, payload, usable, self.opened_layers());
-        if let Some(refusal) = refusal {
-            return Err(refusal);
-        }
+        check_head(id, payload, usable, self.opened_layers())?;
         let layers = layers_of(id, payload);
         self.plan(id, payload, layers, action_of(payload))
     }
