@@ -1,14 +1,9 @@
 -- What the caller's buffer holds after a frame was written from a place on.
-use Rattle.std.proofs.Common.{◌≡◌, ℕ, ◌+◌, ◌-◌, ◌≤◌, cond, leb, List, [], ◌++◌, length, take, drop, Ok, Err, ap, ◌∙◌, append-nil, arith}
+use Rattle.std.proofs.Common.{◌≡◌, ℕ, ◌+◌, ◌-◌, ◌≤◌, List, [], ◌++◌, length, take, drop, ap, ◌∙◌, append-nil, arith}
 use borrow.Rule.Slice.PartMut.{put_mid}
 use Rattle.std.proofs.lemmas.List.{drop_all, drop-drop, take_rest}
-use Rattle.std.proofs.lemmas.Bool.Decides.{nat_tests}
-use Rattle.frame.specs.declared.writer.WriteFault.TheVariants.{BufferTooShort}
 use Rattle.frame.specs.Frames.{Message, frame_bytes}
 use Rattle.frame.specs.Written.{patched, in_front}
-
-pub verdict_size : (size room : ℕ) → Ok size ≡ cond (leb 10 room) (Ok 10) (Err BufferTooShort) → size ≡ 10
-verdict_size size room e = grind (arith, nat_tests)
 
 pub verdict_behind : (old part : List ℕ) (place : ℕ) (m : Message) → place ≤ length old → part ≡ in_front (frame_bytes m) (take (length old - place) (drop place old))
     → put_mid place (length old - place) old part ≡ patched place (frame_bytes m) old

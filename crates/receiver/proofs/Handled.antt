@@ -1,9 +1,8 @@
 -- From what the code did with a frame to how the reference handles it.
-use Rattle.std.proofs.Common.{◌≡◌, ℕ, zero, suc, ◌+◌, cond, not, ◌||◌, eqb, ltb, List, [], ◌++◌, length, take, drop, Some, None, Ok, Err, Option, Result, sym, refl, ap, ◌∙◌, subst, ap₂, append_assoc, add-zero, arith}
+use Rattle.std.proofs.Common.{◌≡◌, ℕ, zero, suc, ◌+◌, cond, not, ◌||◌, eqb, ltb, List, [], ◌++◌, length, take, drop, Ok, Err, Result, sym, refl, ap, ◌∙◌, subst, ap₂, append_assoc}
 use Rattle.std.proofs.lemmas.Bool.{ne_eqb, cond-false}
 use Rattle.std.proofs.lemmas.List.{take_at, drop_at, drop-drop, length-append}
 use Rattle.frame.specs.Frames.{Message, carrying, frame_bytes}
-use Rattle.frame.specs.Scanning.{Finding as Found}
 use Rattle.frame.specs.Written.{patched, in_front}
 use Rattle.frame.proofs.Frames.{frame_length}
 use Rattle.rule.specs.Rules.{Finding}
@@ -12,21 +11,19 @@ use Rattle.reference.specs.declared.refusal.Refusal.TheVariants.{OtherId, ShortP
 use Rattle.request.specs.Head.{head_refusal, opened_layers, after_head}
 use Rattle.request.proofs.Heads.{judged_change_lem}
 use Rattle.reference.specs.declared.refusal.Verdict.TheVariants.{Outside}
-use Rattle.reference.specs.declared.answered.Answered.{Answered}
-use Rattle.reference.specs.declared.answered.Answered.TheVariants.{NothingWhole, Told}
 use Rattle.reference.specs.declared.answered.Telling.{Telling}
 use Rattle.reference.specs.declared.layers.Layers.{Layers}
 use Rattle.reference.specs.Requests.{Catalogue, configuration_class, valset, valget, valdel, layers_of, action_of}
 use Rattle.reference.specs.Events.{told, written_by}
-use Rattle.reference.specs.Receiver.{State, Stepped, with_held, with_transaction, of_kind, planned, unless, judged_change, layer_of, judged_get, judged, apply_fault, applied, carried_out, handled, answering}
+use Rattle.reference.specs.Receiver.{State, Stepped, with_held, with_transaction, of_kind, planned, unless, judged_change, layer_of, judged_get, judged, apply_fault, applied, carried_out, handled}
 use Rattle.reference.specs.Receiver.{Plan as Planned}
 use Rattle.receiver.specs.declared.first.HeldFrame.{HeldFrame}
 use Rattle.receiver.specs.declared.transaction.Plan.TheVariants.{Apply, Queue}
 use Rattle.receiver.specs.declared.transaction.Granted.{Granted}
 use Rattle.receiver.specs.declared.transaction.Granted.TheVariants.{Change, Reply}
-use Rattle.receiver.specs.First.{message_in, end_of, first_finding, FirstIs}
+use Rattle.receiver.specs.First.{message_in, end_of}
 use Rattle.receiver.specs.Written.{verdict_on}
-use Rattle.receiver.specs.Handled.{telling_event, handled_here, Handling, Answering, answering_of}
+use Rattle.receiver.specs.Handled.{telling_event, handled_here, Handling}
 use Rattle.receiver.specs.Plans.{verdicted_of, reply_of, reply_length, verdict_of, verdict_id, after_verdict, told_by, Judged}
 
 -- Judging does not read the held bytes
@@ -183,19 +180,3 @@ module _ (cat : Catalogue) (rule : Finding) (s : State) (h : HeldFrame) where
       subst (λ (x : Telling). Handling (handled_here cat rule s h) (with_held s bs) old old x) (sym told_is)
       (subst (λ (x : Stepped). Handling x (with_held s bs) old old (record { noise = h.noise; class = h.class; id = h.id; verdict = Outside; length = 0 })) (sym is)
       (record { state = left; event = refl; count = refl; buffer = refl }))
-
--- An answering
-
-module _ (cat : Catalogue) (rule : Finding) (s : State) where
-  found_so : (s₁ : State) (old out : List ℕ) (a : Answered) (r : Result HeldFrame ℕ) → FirstIs s.held_bytes r
-      → Answering (answering cat rule (with_held s (first_finding s.held_bytes r).rest) (first_finding s.held_bytes r).skipped (first_finding s.held_bytes r).message) s₁ old out a
-      → Answering (answering_of cat rule s) s₁ old out a
-  found_so s₁ old out a r is h = subst (λ (x : Found). Answering (answering cat rule (with_held s x.rest) x.skipped x.message) s₁ old out a) is.value h
-
-  pub first_told : (s₁ : State) (old out : List ℕ) (t : Telling) (h : HeldFrame) → FirstIs s.held_bytes (Ok h) → Handling (handled_here cat rule s h) s₁ old out t → Answering (answering_of cat rule s) s₁ old out (Told t)
-  first_told s₁ old out t h is handling =
-      found_so s₁ old out (Told t) (Ok h) is (record { state = handling.state; event = handling.event; count = handling.count; buffer = handling.buffer })
-
-  pub none_told : (s₁ : State) (old bs : List ℕ) (n : ℕ) → FirstIs s.held_bytes (Err n) → bs ≡ drop n s.held_bytes → s₁ ≡ with_held s bs → Answering (answering_of cat rule s) s₁ old old (NothingWhole n)
-  none_told s₁ old bs n is dropped left =
-      found_so s₁ old old (NothingWhole n) (Err n) is (record { state = left ∙ ap (with_held s) dropped; event = refl; count = refl; buffer = refl })

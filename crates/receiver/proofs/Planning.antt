@@ -13,6 +13,9 @@ use Rattle.reference.specs.Receiver.{State, Plan, written, configuration, and_th
 use Rattle.catalogue.specs.declared.entries.Entry.{Entry}
 use Rattle.std.specs.Option.{option_map}
 use Rattle.request.specs.declared.change.Change.{Change}
+use Rattle.request.specs.declared.action.Action.{Action}
+use Rattle.request.specs.declared.action.Action.TheVariants.{Apply, Open, Add, Close}
+use Rattle.request.specs.Actions.{action_number}
 use Rattle.request.specs.Changes.{no_change, changes_by}
 use Rattle.receiver.specs.declared.transaction.Transaction.{Transaction}
 use Rattle.receiver.specs.State.{opened_of}
@@ -46,6 +49,18 @@ read_latest (Err x) d F e = let z : ◌≡◌ {A = ℕ} 0 1 = cc in absurd (omeg
 read_refused : (r : Result Data Refusal) (x : Refusal) (F : Changes → Result Plan Refusal) → Err x ≡ ok_map latest r → Err x ≡ and_then r (λ y. F (latest y))
 read_refused (Ok y) x F e = let z : ◌≡◌ {A = ℕ} 0 1 = cc in absurd (omega arith)
 read_refused (Err y) x F e = let same : x ≡ y = cc in ap Err same
+
+pub reads_none : (a : Action) → a ≡ Close → 2 < action_number a
+reads_none Apply e = absurd (cc)
+reads_none Open e = absurd (cc)
+reads_none Add e = absurd (cc)
+reads_none Close e = omega arith
+
+pub reads_on : (a : Action) → (a ≡ Close → ⊥) → action_number a ≤ 2
+reads_on Apply not = omega arith
+reads_on Open not = omega arith
+reads_on Add not = omega arith
+reads_on Close not = absurd (not refl)
 
 module _ (cat : Catalogue) (rule : Finding) (s : State) (m : Message) (l : Layers) where
   -- actions 0, 1 and 2 read their data

@@ -17,6 +17,7 @@ pub mod named;
 #[derive(Drop)]
 pub struct Receiver<B: Store, F: Store, R: Rule> {
     // made of parts that the check refuses: every call is refused
+    // kept: making answers a receiver for all parts, and the reference's state has this mark
     shut: bool,
     // what was taken and not dropped yet
     held: Held,

@@ -9,6 +9,7 @@ use request::CONFIGURATION_CLASS;
 
 pub(crate) const VERDICT_CLASS: u8 = 0x05;
 
+// kept: these two are IDs of frames, and stand on the wire as they are
 pub(crate) const ACK: u8 = 0x01;
 
 pub(crate) const NAK: u8 = 0x00;

@@ -21,6 +21,8 @@ use request::CONFIGURATION_CLASS;
 use rule::Rule;
 
 // The least room for an answer: the largest reply, and the verdict behind it.
+// kept: the room is a clause of each function here, since with an array of 790 bytes lent from the buffer (`first_chunk_mut`) the proof of what
+// stands behind the array runs out of steps
 pub const ANSWER_ROOM: usize = 790;
 
 impl<B: Store, F: Store, R: Rule> Receiver<B, F, R> {
