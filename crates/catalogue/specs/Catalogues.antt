@@ -1,15 +1,17 @@
 -- Catalogues: lists of entries, the check that accepts them, and which of their items a key or selector names.
-use Rattle.std.specs.Prelude.{◌≡◌, ℕ, suc, ◌+◌, ◌^◌, ◌<◌, ◌≤◌, Bool, true, false, cond, not, ◌&&◌, ◌||◌, List, [], ◌∷◌, length, drop, Some, None, Ok, Err, Option, Result, ◌==◌, ◌≢◌, nat_le, slice_index_or}
+use Rattle.std.specs.Prelude.{◌≡◌, ℕ, suc, ◌+◌, ◌^◌, ◌<◌, ◌≤◌, Bool, true, false, cond, not, ◌&&◌, ◌||◌, List, [], ◌∷◌, length, drop, Some, None, Ok, Err, Option, Result, ◌≢◌, nat_le, slice_index_or}
 use Rattle.catalogue.specs.declared.entries.CatalogueFault.{CatalogueFault}
 use Rattle.catalogue.specs.declared.entries.CatalogueFault.TheVariants.{EntryCount, IllFormedKey, OutOfOrder, Unsound}
 use Rattle.catalogue.specs.declared.entries.Entry.{Entry}
+use Rattle.catalogue.specs.declared.kind.Kind.TheVariants.{Unsigned}
+use Rattle.catalogue.specs.Kinds.{is_signed, is_bits, is_known}
 use Rattle.item.specs.declared.key.Size.{Size}
 use Rattle.item.specs.declared.key.Size.TheVariants.{Bit, One, Two, Four, Eight}
 use Rattle.item.specs.declared.selector.Selector.{Selector}
 use Rattle.item.specs.Keys.{size_of, well_formed, fits_key}
 use Rattle.item.specs.Selectors.{names}
 
--- The order of values: unsigned, or in kind 1 two's complement
+-- The order of values: unsigned, or of signed ones two's complement
 
 -- the first number whose top bit is set, and so the first that is negative in two's complement
 abbrev pub half_of : Size → ℕ
@@ -28,15 +30,15 @@ sized_at_most None a b = nat_le a b
 sized_at_most (Some s) a b = signed_at_most s a b
 
 abbrev pub at_most : Entry → ℕ → ℕ → Bool
-at_most e a b = cond (e.kind == 1) (sized_at_most (size_of e.key) a b) (nat_le a b)
+at_most e a b = cond (is_signed e.kind) (sized_at_most (size_of e.key) a b) (nat_le a b)
 
--- low ≤ value ≤ high; kind 2 is bits, whose bounds are not read
+-- low ≤ value ≤ high; the bounds of bits are not read
 abbrev pub allows : Entry → ℕ → Bool
-allows e v = e.kind == 2 || (at_most e e.low v && at_most e v e.high)
+allows e v = is_bits e.kind || (at_most e e.low v && at_most e v e.high)
 
 -- The check
 
--- kind 1 has no bits: its sizes are 2 to 5
+-- a bit has no sign: the sizes of signed values are 2 to 5
 abbrev pub is_bit : Option Size → Bool
 is_bit None = false
 is_bit (Some Bit) = true
@@ -46,11 +48,11 @@ is_bit (Some Four) = false
 is_bit (Some Eight) = false
 
 abbrev pub kind_suits : Entry → Bool
-kind_suits e = nat_le e.kind 2 && not (e.kind == 1 && is_bit (size_of e.key))
+kind_suits e = is_known e.kind && not (is_signed e.kind && is_bit (size_of e.key))
 
 -- what is read fits the size
 abbrev pub read_fits : Entry → Bool
-read_fits e = fits_key e.key e.default && (e.kind == 2 || (fits_key e.key e.low && fits_key e.key e.high))
+read_fits e = fits_key e.key e.default && (is_bits e.kind || (fits_key e.key e.low && fits_key e.key e.high))
 
 abbrev pub is_sound : Entry → Bool
 is_sound e = kind_suits e && (read_fits e && allows e e.default)
@@ -63,6 +65,9 @@ entry_fault place below e =
 abbrev pub unless_fault : Option CatalogueFault → Result (Unit {0}) CatalogueFault → Result (Unit {0}) CatalogueFault
 unless_fault None rest = rest
 unless_fault (Some f) rest = Err f
+
+abbrev pub entry_checked : ℕ → ℕ → Entry → Result (Unit {0}) CatalogueFault
+entry_checked place below e = unless_fault (entry_fault place below e) (Ok tt)
 
 -- entry by entry, from this place on, behind an entry with the key `below`
 abbrev pub entries_checked : ℕ → ℕ → List Entry → Result (Unit {0}) CatalogueFault
@@ -95,7 +100,7 @@ Listed n (e ∷ es) = (n < e.key) × (well_formed e.key ≡ true) × (is_sound e
 
 -- an entry to read where there is none
 abbrev pub blank : Entry
-blank = record { key = 0; kind = 0; default = 0; low = 0; high = 0 }
+blank = record { key = 0; kind = Unsigned; default = 0; low = 0; high = 0 }
 
 -- so a key stands at one place at most
 pub record OnlyOnce (es : List Entry) : Type 0 where

@@ -1,3 +1,4 @@
 pub mod Bench
 pub mod Catalogues
+pub mod Kinds
 pub mod Owned

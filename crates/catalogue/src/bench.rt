@@ -1,16 +1,18 @@
 // The bench catalogue: seven items on which the examples of this repository are worked.
 ghost use Rattle.std.specs.Prelude.{◌≡◌};
 ghost use Rattle.catalogue.specs.Bench.{bench, BenchFacts};
+ghost use Rattle.catalogue.specs.declared.kind.Kind.TheVariants.{Unsigned, Bits};
 
-use crate::entries::{BITS, Entry, UNSIGNED};
+use crate::entries::Entry;
+use crate::kind::Kind;
 
 // An entry with unsigned values.
 fn unsigned(key: u32, default: u64, low: u64, high: u64) -> Entry
-    ensures { result ≡ record { key = key; kind = 0; default = default; low = low; high = high } }
+    ensures { result ≡ record { key = key; kind = Unsigned; default = default; low = low; high = high } }
 {
     Entry {
         key,
-        kind: UNSIGNED,
+        kind: Kind::Unsigned,
         default,
         low,
         high,
@@ -19,11 +21,11 @@ fn unsigned(key: u32, default: u64, low: u64, high: u64) -> Entry
 
 // An entry with bits, all zero by default.
 fn bits(key: u32) -> Entry
-    ensures { result ≡ record { key = key; kind = 2; default = 0; low = 0; high = 0 } }
+    ensures { result ≡ record { key = key; kind = Bits; default = 0; low = 0; high = 0 } }
 {
     Entry {
         key,
-        kind: BITS,
+        kind: Kind::Bits,
         default: 0,
         low: 0,
         high: 0,

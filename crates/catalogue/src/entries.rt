@@ -1,34 +1,28 @@
 // The catalogue: which items there are, with their defaults and bounds. It is a lent slice of entries; an item's number is its entry's place.
-ghost use Rattle.std.specs.Prelude.{◌≡◌, ◌<◌, OnOk};
+ghost use Rattle.std.specs.Prelude.{◌≡◌, ◌<◌, length, IfSome, OnOk};
 ghost use Rattle.item.specs.Selectors.{selector_of};
-ghost use Rattle.catalogue.specs.Catalogues.{signed_at_most, at_most, allows, kind_suits, read_fits, entry_fault, entries_checked, catalogue_checked, fault_number, fault_entry, OnlyOnce, Accepted, FirstWith, NextNamed, FirstNamed};
+ghost use Rattle.catalogue.specs.Catalogues.{signed_at_most, at_most, allows, kind_suits, read_fits, entry_checked, entries_checked, catalogue_checked, fault_number, fault_entry, OnlyOnce, Accepted, FirstWith, NextNamed, FirstNamed};
 
-use item::{Selector, Size, fits_key, is_well_formed, selector_of, size_of};
+use crate::kind::Kind;
+use item::{Selector, Size, fits_key, is_well_formed, size_of};
 use std::error::Error;
 use std::fmt;
-
-// The kinds of values: unsigned numbers, two's complement numbers, and bits, which have no order and no bounds.
-pub const UNSIGNED: u8 = 0;
-
-pub const SIGNED: u8 = 1;
-
-pub const BITS: u8 = 2;
 
 // The most entries of a catalogue.
 pub const MAX_ITEMS: usize = 128;
 
 // One item: its key, its kind, and its default, least and greatest value, as the unsigned numbers of their bytes.
-#[derive(Clone, Copy)]
+#[derive(Clone, Copy, PartialEq, Eq, Debug)]
 pub struct Entry {
     pub key: u32,
-    pub kind: u8,
+    pub kind: Kind,
     pub default: u64,
     pub low: u64,
     pub high: u64,
 }
 
 // Why a catalogue is refused, with the place of the first entry at fault where there is one.
-#[derive(Clone, Copy, Debug)]
+#[derive(Clone, Copy, PartialEq, Eq, Debug)]
 pub enum CatalogueFault {
     // none, or more than 128
     EntryCount,
@@ -73,6 +67,7 @@ impl CatalogueFault {
     }
 
     // The entry at fault; 0 where it is none in particular.
+    // kept: no Option, since `number` already says whether there is one, and callers print the entry beside it
     pub fn entry(self) -> usize
         ensures { result ≡ fault_entry self }
     {
@@ -108,12 +103,9 @@ impl Entry {
     fn at_most(&self, a: u64, b: u64) -> bool
         ensures { result ≡ at_most self.now a b }
     {
-        if self.kind != SIGNED {
-            return a <= b;
-        }
-        match size_of(self.key) {
-            Some(size) => signed_at_most(size, a, b),
-            None => a <= b,
+        match (self.kind, size_of(self.key)) {
+            (Kind::Signed, Some(size)) => signed_at_most(size, a, b),
+            _ => a <= b,
         }
     }
 
@@ -121,16 +113,17 @@ impl Entry {
     pub fn allows(&self, value: u64) -> bool
         ensures { result ≡ allows self.now value }
     {
-        self.kind == BITS || (self.at_most(self.low, value) && self.at_most(value, self.high))
+        self.kind == Kind::Bits || (self.at_most(self.low, value) && self.at_most(value, self.high))
     }
 
     // Whether the kind suits the size.
     fn kind_suits(&self) -> bool
         ensures { result ≡ kind_suits self.now }
     {
-        match size_of(self.key) {
-            Some(Size::Bit) => self.kind == UNSIGNED || self.kind == BITS,
-            _ => self.kind <= BITS,
+        match self.kind {
+            Kind::Unsigned | Kind::Bits => true,
+            Kind::Signed => size_of(self.key) != Some(Size::Bit),
+            Kind::Unknown(_) => false,
         }
     }
 
@@ -139,24 +132,24 @@ impl Entry {
         ensures { result ≡ read_fits self.now }
     {
         fits_key(self.key, self.default)
-            && (self.kind == BITS
+            && (self.kind == Kind::Bits
                 || (fits_key(self.key, self.low) && fits_key(self.key, self.high)))
     }
 
-    // The first thing wrong with the entry, at its place behind an entry with the key `below`.
-    fn fault(&self, place: usize, below: u32) -> Option<CatalogueFault>
-        ensures { result ≡ entry_fault place below self.now }
+    // The check of the entry at its place, behind an entry with the key `below`: the first thing wrong with it.
+    fn check(&self, place: usize, below: u32) -> Result<(), CatalogueFault>
+        ensures { result ≡ entry_checked place below self.now }
     {
         if !is_well_formed(self.key) {
-            return Some(CatalogueFault::IllFormedKey(place));
+            return Err(CatalogueFault::IllFormedKey(place));
         }
         if self.key <= below {
-            return Some(CatalogueFault::OutOfOrder(place));
+            return Err(CatalogueFault::OutOfOrder(place));
         }
         if self.kind_suits() && self.read_fits() && self.allows(self.default) {
-            return None;
+            return Ok(());
         }
-        Some(CatalogueFault::Unsound(place))
+        Err(CatalogueFault::Unsound(place))
     }
 }
 
@@ -167,9 +160,7 @@ fn check_entries(entries: &[Entry]) -> Result<(), CatalogueFault>
 {
     let mut below = 0;
     for (place, entry) in entries.iter().enumerate() {
-        if let Some(fault) = entry.fault(place, below) {
-            return Err(fault);
-        }
+        entry.check(place, below)?;
         below = entry.key;
     }
     Ok(())
@@ -191,12 +182,15 @@ pub fn check_catalogue(entries: &[Entry]) -> Result<(), CatalogueFault>
 pub fn find_item(entries: &[Entry], key: u32) -> Option<usize>
     ensures { FirstWith key entries.now result }
 {
-    for (place, entry) in entries.iter().enumerate() {
-        if entry.key == key {
-            return Some(place);
-        }
-    }
-    None
+    entries.iter().position(|entry| entry.key == key)
+}
+
+// The first of these entries that a selector names.
+fn first_named(entries: &[Entry], selector: Selector) -> Option<usize>
+    ensures within { IfSome result (λ place. place < length entries.now) }
+    ensures first { FirstNamed selector 0 entries.now result }
+{
+    entries.iter().position(|entry| selector.names(entry.key))
 }
 
 // The first item from a place on that a selector names.
@@ -204,12 +198,8 @@ fn seek_named(entries: &[Entry], selector: Selector, from: usize) -> Option<usiz
     ensures next { NextNamed selector from entries.now result }
     ensures first { FirstNamed selector from entries.now result }
 {
-    for place in from..entries.len() {
-        if selector.names(entries[place].key) {
-            return Some(place);
-        }
-    }
-    None
+    let passed = first_named(entries.get(from..)?, selector)?;
+    Some(from + passed)
 }
 
 // The first item from a place on that a number of the wire names; with the place behind the one before, one after the other in ascending order.
@@ -217,5 +207,5 @@ pub fn next_named(entries: &[Entry], number: u32, from: usize) -> Option<usize>
     ensures next { NextNamed (selector_of number) from entries.now result }
     ensures first { FirstNamed (selector_of number) from entries.now result }
 {
-    seek_named(entries, selector_of(number), from)
+    seek_named(entries, Selector::from(number), from)
 }

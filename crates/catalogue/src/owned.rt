@@ -8,6 +8,7 @@ pub mod calls;
 
 #[derive(Drop)]
 pub struct Catalogue {
+    // kept: fixed memory, since a receiver has no heap once it is made
     entries: [Entry; 128],
     count: usize,
     ghost whole: { length entries ≡ 128 },

@@ -1,69 +1,87 @@
 -- Laws of little-endian numbers, over any width.
-use Rattle.std.proofs.Common.{◌≡◌, ℕ, zero, suc, ◌+◌, ◌-◌, ◌*◌, ◌/◌, ◌%◌, ◌^◌, ◌<◌, ◌≤◌, true, leb, List, [], ◌∷◌, ◌++◌, length, get_or, take, drop, set, Some, sym, refl, ap, ◌∙◌, subst, arith, pow_mono}
-use Rattle.std.proofs.lemmas.Nat.{pow-add, pow_pos}
-use Rattle.std.proofs.lemmas.List.{length-append, length-take-le, take_at, drop_more, drop_all}
+use Rattle.std.proofs.Common.{◌≡◌, ℕ, zero, suc, ◌+◌, ◌-◌, ◌*◌, ◌/◌, ◌%◌, ◌^◌, ◌<◌, ◌≤◌, true, leb, List, [], ◌∷◌, ◌++◌, length, get_or, take, drop, replicate, w64, Some, sym, refl, ap, ◌∙◌, subst, arith}
+use Rattle.std.specs.Int.{from_le_bytes, to_le_bytes, bytes_low_first, byte_at}
+use Rattle.std.proofs.Math.Nat.{div-div-eq-div-mul, pow-suc}
+use Rattle.std.proofs.lemmas.Nat.{pow-add}
+use Rattle.std.proofs.lemmas.List.{length-append, length-take-le, take_at, take-append-drop}
 use Rattle.std.proofs.lemmas.Bool.{ltb-true, le-leb, cond-true}
+use borrow.Rule.Slice.PartMut.{put_mid}
 use Rattle.frame.specs.Written.{patched}
-use Rattle.frame.proofs.Written.{patched_nil, patched_cons, drop_patched}
+use Rattle.frame.proofs.Written.{patched_part, drop_patched}
 use Rattle.item.specs.declared.key.Size.{Size}
 use Rattle.item.specs.declared.key.Size.TheVariants.{Bit, One, Two, Four, Eight}
 use Rattle.item.specs.Keys.{width_of, limit_of, fits}
-use Rattle.item.specs.Values.{number, bytes_of, value_bytes, value_in, value_read, read_bytes, ReadAs}
+use Rattle.item.specs.Values.{number, bytes_of, value_bytes, value_read, read_bytes, ReadAs}
 
--- The number of some bytes, taken from the last one on
+-- The number of some bytes, each of which fits, and the bytes of that number
 
-pub record Read (bs : List ℕ) (i n : ℕ) : Type 0 where
-  pub value : n ≡ number (drop i bs)
-  pub small : n < 2 ^ (8 * (length bs - i))
-  pub back : bytes_of (length bs - i) n ≡ drop i bs
-  pub within : i ≤ length bs
-
-number_more : (bs : List ℕ) (i : ℕ) → i < length bs → number (drop i bs) ≡ get_or bs i 0 + 256 * number (drop (i + 1) bs)
+pub number_small : (bs : List ℕ) → ((i : ℕ) → get_or bs i 0 < 256) → number bs < 2 ^ (8 * length bs)
 unfolding number
-number_more bs i lt = ap number (drop_more bs i 0 lt)
+number_small [] fit = omega arith
+number_small (b ∷ bs) fit =
+    let rest = number_small bs (λ i. fit (suc i)) in
+    let e : 8 * suc (length bs) ≡ 8 * length bs + 8 = omega arith in
+    let p = pow-add 2 (8 * length bs) 8 in
+    rw (e, p) (omega (arith, fit 0))
 
--- one byte more below
-byte_below : (n b k : ℕ) → n < 2 ^ (8 * k) → b < 256 → n * 256 + b < 2 ^ (8 * (k + 1))
-byte_below n b k h l =
-    let e : 8 * (k + 1) ≡ 8 * k + 8 = omega arith in
-    let p = pow-add 2 (8 * k) 8 in
-    rw (e, p) (omega arith)
-
-pub read_none : (bs : List ℕ) → Read bs (length bs) 0
+pub bytes_back : (bs : List ℕ) → ((i : ℕ) → get_or bs i 0 < 256) → bytes_of (length bs) (number bs) ≡ bs
 unfolding number bytes_of
-read_none bs = record {
-  value = sym (ap number (drop_all (length bs) bs (omega arith)));
-  back = (let none : length bs - length bs ≡ 0 = omega arith in rw (none, drop_all (length bs) bs (omega arith)) refl);
-  small = pow_pos (8 * (length bs - length bs));
-  within = omega arith;
-}
+bytes_back [] fit = refl
+bytes_back (b ∷ bs) fit =
+    let low : (b + 256 * number bs) % 256 ≡ b = omega (arith, fit 0) in
+    let high : (b + 256 * number bs) / 256 ≡ number bs = omega (arith, fit 0) in
+    ap (λ x. x ∷ bytes_of (length bs) ((b + 256 * number bs) / 256)) low ∙ ap (λ m. b ∷ bytes_of (length bs) m) high
+    ∙ ap (λ (xs : List ℕ). b ∷ xs) (bytes_back bs (λ i. fit (suc i)))
 
-pub bytes_more : (k n b : ℕ) → b < 256 → bytes_of (k + 1) (n * 256 + b) ≡ b ∷ bytes_of k n
+-- zeros behind the bytes count for nothing
+number_zeros : (n : ℕ) → number (replicate n 0) ≡ 0
+unfolding number
+number_zeros zero = refl
+number_zeros (suc n) = let rest = number_zeros n in omega arith
+
+number_padded : (bs : List ℕ) (n : ℕ) → number (bs ++ replicate n 0) ≡ number bs
+unfolding number
+number_padded [] n = number_zeros n
+number_padded (b ∷ bs) n = ap (λ m. b + 256 * m) (number_padded bs n)
+
+-- eight bytes, as the library reads them
+number_le : (bs : List ℕ) → length bs ≡ 8 → from_le_bytes w64 bs ≡ number bs
+unfolding number
+number_le (a ∷ b ∷ c ∷ d ∷ e ∷ f ∷ g ∷ h ∷ []) len = omega arith
+number_le [] len = absurd (omega arith)
+number_le (a ∷ []) len = absurd (omega arith)
+number_le (a ∷ b ∷ []) len = absurd (omega arith)
+number_le (a ∷ b ∷ c ∷ []) len = absurd (omega arith)
+number_le (a ∷ b ∷ c ∷ d ∷ []) len = absurd (omega arith)
+number_le (a ∷ b ∷ c ∷ d ∷ e ∷ []) len = absurd (omega arith)
+number_le (a ∷ b ∷ c ∷ d ∷ e ∷ f ∷ []) len = absurd (omega arith)
+number_le (a ∷ b ∷ c ∷ d ∷ e ∷ f ∷ g ∷ []) len = absurd (omega arith)
+number_le (a ∷ b ∷ c ∷ d ∷ e ∷ f ∷ g ∷ h ∷ i ∷ more) len = absurd (omega arith)
+
+pub padded_number : (bs all : List ℕ) → take (length bs) all ≡ bs → drop (length bs) all ≡ replicate (8 - length bs) 0 → length all ≡ 8 → from_le_bytes w64 all ≡ number bs
+padded_number bs all front rest len =
+    let both : all ≡ bs ++ replicate (8 - length bs) 0 = sym (take-append-drop (length bs) all) ∙ ap (λ (xs : List ℕ). xs ++ drop (length bs) all) front ∙ ap (λ (xs : List ℕ). bs ++ xs) rest in
+    number_le all len ∙ ap number both ∙ number_padded bs (8 - length bs)
+
+-- the lowest bytes of a number, as the library gives them
+low_first : (i k n m : ℕ) → m ≡ n / 256 ^ i → bytes_low_first i k n ≡ bytes_of k m
 unfolding bytes_of
-bytes_more k n b small =
-    let e : k + 1 ≡ suc k = omega arith in
-    let low : (n * 256 + b) % 256 ≡ b = omega arith in
-    let high : (n * 256 + b) / 256 ≡ n = omega arith in
-    ap (λ w. bytes_of w (n * 256 + b)) e ∙ ap (λ x. x ∷ bytes_of k ((n * 256 + b) / 256)) low ∙ ap (λ m. b ∷ bytes_of k m) high
+low_first i zero n m e = refl
+low_first i (suc k) n m e =
+    let here : byte_at i n ≡ m % 256 = byte_is i n m e in
+    let next : m / 256 ≡ n / 256 ^ suc i = ap (λ x. x / 256) e ∙ div-div-eq-div-mul n (256 ^ i) 256 ∙ ap (λ x. n / x) (sym (pow-suc 256 i)) in
+    ap (λ x. x ∷ bytes_low_first (suc i) k n) here ∙ ap (λ (xs : List ℕ). m % 256 ∷ xs) (low_first (suc i) k n (m / 256) next)
+  where
+    byte_is : (i n m : ℕ) → m ≡ n / 256 ^ i → byte_at i n ≡ m % 256
+    byte_is zero n m e = omega arith
+    byte_is (suc i) n m e = ap (λ x. x % 256) (sym e)
 
-pub read_more : (bs : List ℕ) (i n : ℕ) → Read bs i n → 0 < i → get_or bs (i - 1) 0 < 256 → Read bs (i - 1) (n * 256 + get_or bs (i - 1) 0)
-read_more bs i n h pos b =
-    let k : length bs - (i - 1) ≡ (length bs - i) + 1 = omega (arith, h.within) in
-    let next = drop_more bs (i - 1) 0 (omega (arith, h.within)) in
-    let back : i - 1 + 1 ≡ i = omega arith in
-    let e = rw back at (number_more bs (i - 1) (omega (arith, h.within))) in
-    record {
-      value = omega (arith, e, h.value);
-      small = rw k (byte_below n (get_or bs (i - 1) 0) (length bs - i) h.small b);
-      back = ap (λ w. bytes_of w (n * 256 + get_or bs (i - 1) 0)) k ∙ bytes_more (length bs - i) n (get_or bs (i - 1) 0) b
-          ∙ ap (λ (xs : List ℕ). get_or bs (i - 1) 0 ∷ xs) (h.back ∙ ap (λ m. drop m bs) (sym back)) ∙ sym next;
-      within = omega (arith, h.within);
-    }
-
--- up to eight bytes
-pub read_fits_lem : (bs : List ℕ) (i n : ℕ) → Read bs i n → 0 < i → length bs ≤ 8 → n < 2 ^ 56
-read_fits_lem bs i n h pos l =
-    let m : 2 ^ (8 * (length bs - i)) ≤ 2 ^ 56 = pow_mono {i = 8 * (length bs - i)} {j = 56} (omega arith) in omega (arith, h.small)
+value_bytes_le : (s : Size) (n : ℕ) → take (width_of s) (to_le_bytes w64 n) ≡ bytes_of (width_of s) n
+value_bytes_le Bit n = low_first 0 1 n n (omega arith)
+value_bytes_le One n = low_first 0 1 n n (omega arith)
+value_bytes_le Two n = low_first 0 2 n n (omega arith)
+value_bytes_le Four n = low_first 0 4 n n (omega arith)
+value_bytes_le Eight n = low_first 0 8 n n (omega arith)
 
 -- What was written is read again
 
@@ -81,14 +99,6 @@ pub length_bytes : (w n : ℕ) → length (bytes_of w n) ≡ w
 unfolding bytes_of
 length_bytes zero n = refl
 length_bytes (suc w) n = ap suc (length_bytes w (n / 256))
-
--- the loop has come to the first byte
-pub read_all : (bs : List ℕ) (i n : ℕ) → Read bs i n → i ≤ 0 → (n ≡ number bs) × (n < 2 ^ (8 * length bs)) × (bytes_of (length bs) n ≡ bs)
-read_all bs i n h le =
-    let z : i ≡ 0 = omega arith in
-    let r : Read bs 0 n = subst (λ k. Read bs k n) z h in
-    let all : length bs - 0 ≡ length bs = omega arith in
-    (r.value, rw all at r.small, rw all at r.back)
 
 -- A value is read by its size
 
@@ -110,31 +120,18 @@ kept_bytes Two p n len is small back = let e : n % 2 ^ 16 ≡ n = omega arith in
 kept_bytes Four p n len is small back = let e : n % 2 ^ 32 ≡ n = omega arith in ap (bytes_of 4) e ∙ back
 kept_bytes Eight p n len is small back = let e : n % 2 ^ 64 ≡ n = omega arith in ap (bytes_of 8) e ∙ back
 
-pub value_is : (s : Size) (bs p : List ℕ) (n v : ℕ) → p ≡ take (width_of s) bs → width_of s ≤ length bs → n ≡ number p → n < 2 ^ (8 * length p) → bytes_of (length p) n ≡ p → v ≡ n % limit_of s
-    → (v ≡ value_in s bs) × ReadAs s bs v
-value_is s bs p n v e long is small back kept =
+pub read_as : (s : Size) (bs p : List ℕ) (n v : ℕ) → p ≡ take (width_of s) bs → width_of s ≤ length bs → n ≡ number p → n < 2 ^ (8 * length p) → bytes_of (length p) n ≡ p → v ≡ n % limit_of s → ReadAs s bs v
+read_as s bs p n v e long is small back kept =
     let len : length p ≡ width_of s = ap length e ∙ length-take-le (width_of s) bs long in
-    let same : v ≡ value_in s bs = kept ∙ ap (λ m. m % limit_of s) is ∙ ap (λ (q : List ℕ). number q % limit_of s) e in (
-      same,
-      record {
-        fits = subst (λ x. x < limit_of s) (sym kept) (kept_fits s n);
-        written = ap (value_bytes s) kept ∙ kept_bytes s p n len is (subst (λ w. n < 2 ^ (8 * w)) len small) (subst (λ w. bytes_of w n ≡ p) len back) ∙ ap (read_bytes s) e;
-      },
-    )
+    record {
+      fits = subst (λ x. x < limit_of s) (sym kept) (kept_fits s n);
+      written = ap (value_bytes s) kept ∙ kept_bytes s p n len is (subst (λ w. n < 2 ^ (8 * w)) len small) (subst (λ w. bytes_of w n ≡ p) len back) ∙ ap (read_bytes s) e;
+    }
 
--- A number is written byte by byte: one turn, and the end
+-- A value is written over a part of the buffer
 
-pub bytes_step : (place i w n : ℕ) (out : List ℕ) → i < w → place + w ≤ length out
-    → patched (place + (i + 1)) (bytes_of (w - (i + 1)) (n / 256)) (set out (place + i) (n % 256)) ≡ patched (place + i) (bytes_of (w - i) n) out
-unfolding bytes_of
-bytes_step place i w n out lt h =
-    let e : place + (i + 1) ≡ place + i + 1 = omega arith in
-    let s : w - i ≡ suc (w - (i + 1)) = omega arith in
-    rw (e, s) (patched_cons (place + i) (n % 256) (bytes_of (w - (i + 1)) (n / 256)) out (omega arith))
-
-pub bytes_end : (place i w n : ℕ) (out : List ℕ) → w ≤ i → patched (place + i) (bytes_of (w - i) n) out ≡ out
-unfolding bytes_of
-bytes_end place i w n out le = let z : w - i ≡ 0 = omega arith in rw z (patched_nil (place + i) out)
+pub written_part : (s : Size) (v place k : ℕ) (old part : List ℕ) → k ≡ width_of s → part ≡ take (width_of s) (to_le_bytes w64 v) → put_mid place k old part ≡ patched place (value_bytes s v) old
+written_part s v place k old part e same = patched_part place k (value_bytes s v) old part (e ∙ sym (length_bytes (width_of s) v)) (same ∙ value_bytes_le s v)
 
 -- and a value that was written is read again
 fits_bytes : (s : Size) (v : ℕ) → fits s v ≡ true → v < 2 ^ (8 * width_of s)

@@ -3,7 +3,7 @@ ghost use Rattle.std.specs.Prelude.{◌≡◌};
 ghost use Rattle.item.specs.Keys.{size_of, width_of, fits, group_of, well_formed, fits_key};
 
 // The size of a value: one bit, or 1, 2, 4 or 8 bytes; in a key 1 to 5.
-#[derive(Clone, Copy)]
+#[derive(Clone, Copy, PartialEq, Eq, Debug)]
 pub enum Size {
     Bit,
     One,
@@ -81,8 +81,5 @@ pub fn is_well_formed(key: u32) -> bool
 pub fn fits_key(key: u32, value: u64) -> bool
     ensures { result ≡ fits_key key value }
 {
-    match size_of(key) {
-        Some(size) => size.fits(value),
-        None => false,
-    }
+    size_of(key).is_some_and(|size| size.fits(value))
 }

@@ -4,6 +4,7 @@ ghost use Rattle.frame.specs.Written.{patched};
 ghost use Rattle.item.specs.Keys.{width_of, limit_of, fits};
 ghost use Rattle.item.specs.Values.{number as number_of, bytes_of, value_bytes, value_in, value_read, ReadAs, value_written};
 
+use crate::arrays::padded;
 use crate::key::Size;
 use std::error::Error;
 use std::fmt;
@@ -34,13 +35,7 @@ fn number_of(bytes: &[u8]) -> u64
     ensures bound { result < 2 ^ (8 * length bytes.now) }
     ensures back { bytes_of (length bytes.now) result ≡ bytes.now }
 {
-    let mut number = 0u64;
-    let mut left = bytes.len();
-    while left > 0 {
-        left -= 1;
-        number = number * 256 + bytes[left] as u64;
-    }
-    number
+    u64::from_le_bytes(padded(bytes, 0))
 }
 
 impl Size {
@@ -51,10 +46,7 @@ impl Size {
     {
         match self {
             Size::Bit => number % 2,
-            Size::One => number,
-            Size::Two => number,
-            Size::Four => number,
-            Size::Eight => number,
+            _ => number,
         }
     }
 }
@@ -80,18 +72,6 @@ pub fn read_value(size: Size, bytes: &[u8]) -> Option<u64>
     Some(value_in(size, bytes))
 }
 
-// Writes the lowest bytes of a number from a place on.
-fn put_number(out: &mut [u8], place: usize, width: usize, number: u64)
-    requires { place + width ≤ length out.old }
-    ensures { out.new ≡ patched place (bytes_of width number) out.old }
-{
-    let mut rest = number;
-    for i in 0..width {
-        out[place + i] = (rest % 256) as u8;
-        rest /= 256;
-    }
-}
-
 // Writes a value that fits its size into a buffer that has room for it.
 fn put_value(out: &mut [u8], place: usize, size: Size, value: u64)
     requires fits { fits size value ≡ true }
@@ -99,7 +79,8 @@ fn put_value(out: &mut [u8], place: usize, size: Size, value: u64)
     ensures out { out.new ≡ patched place (value_bytes size value) out.old }
     ensures back { value_read size (drop place out.new) ≡ Some value }
 {
-    put_number(out, place, size.width(), value);
+    let width = size.width();
+    out[place..place + width].copy_from_slice(&value.to_le_bytes()[0..width]);
 }
 
 // Writes a value from a place of the buffer on; answers the place behind it. A refusal leaves the buffer as it was.

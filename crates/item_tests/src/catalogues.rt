@@ -1,44 +1,41 @@
 // Catalogues: the bench catalogue, what is wrong with others, and which items are named.
-use catalogue::{Entry, bench_catalogue, check_catalogue, find_item, next_named};
+use catalogue::{Entry, Kind, bench_catalogue, check_catalogue, find_item, next_named};
 
-// The number and entry of the check's refusal; 0 0 where the catalogue is accepted.
-fn refusal(entries: &[Entry]) -> (u8, usize) {
-    match check_catalogue(entries) {
-        Ok(()) => (0, 0),
-        Err(fault) => (fault.number(), fault.entry()),
-    }
+// The check, with the number and entry of its refusal.
+fn checked(entries: &[Entry]) -> Result<(), (u8, usize)> {
+    check_catalogue(entries).map_err(|fault| (fault.number(), fault.entry()))
 }
 
 #[test]
 fn the_bench_catalogue_is_accepted(rt: HostRuntime) {
-    assert_eq!(rt; refusal(&bench_catalogue()), (0, 0));
+    assert_eq!(rt; checked(&bench_catalogue()), Ok(()));
 }
 
 #[test]
 fn each_fault_is_told_with_its_entry(rt: HostRuntime) {
-    assert_eq!(rt; refusal(&[]), (1, 0));
-    assert_eq!(rt; refusal(&[bench_catalogue()[0]; 129]), (1, 0));
+    assert_eq!(rt; checked(&[]), Err((1, 0)));
+    assert_eq!(rt; checked(&[bench_catalogue()[0]; 129]), Err((1, 0)));
     // item fff
     let mut entries = bench_catalogue();
     entries[4].key = 0x2091_0fff;
-    assert_eq!(rt; refusal(&entries), (2, 4));
+    assert_eq!(rt; checked(&entries), Err((2, 4)));
     // the key of the entry before it
     entries = bench_catalogue();
     entries[3].key = 0x2051_0001;
-    assert_eq!(rt; refusal(&entries), (3, 3));
+    assert_eq!(rt; checked(&entries), Err((3, 3)));
     // a default below the least value, a kind that there is not, a value of two in a bit, a bit with a sign
     entries = bench_catalogue();
     entries[2].default = 7;
-    assert_eq!(rt; refusal(&entries), (4, 2));
+    assert_eq!(rt; checked(&entries), Err((4, 2)));
     entries = bench_catalogue();
-    entries[5].kind = 3;
-    assert_eq!(rt; refusal(&entries), (4, 5));
+    entries[5].kind = Kind::from(3);
+    assert_eq!(rt; checked(&entries), Err((4, 5)));
     entries = bench_catalogue();
     entries[1].high = 2;
-    assert_eq!(rt; refusal(&entries), (4, 1));
+    assert_eq!(rt; checked(&entries), Err((4, 1)));
     entries = bench_catalogue();
-    entries[0].kind = 1;
-    assert_eq!(rt; refusal(&entries), (4, 0));
+    entries[0].kind = Kind::Signed;
+    assert_eq!(rt; checked(&entries), Err((4, 0)));
 }
 
 #[test]
@@ -46,12 +43,12 @@ fn two_s_complement_bounds(rt: HostRuntime) {
     // -2 to 3 in one byte
     let entry = Entry {
         key: 0x2001_0001,
-        kind: 1,
+        kind: Kind::Signed,
         default: 0xff,
         low: 0xfe,
         high: 3,
     };
-    assert_eq!(rt; refusal(&[entry]), (0, 0));
+    assert_eq!(rt; checked(&[entry]), Ok(()));
     assert!(rt; entry.allows(0xfe));
     assert!(rt; entry.allows(3));
     assert!(rt; !entry.allows(0xfd));

@@ -1,25 +1,24 @@
 -- Rules: what they name, the walks that find it, and what never makes a configuration unfit.
-use Rattle.std.specs.Prelude.{◌≡◌, ℕ, suc, ◌+◌, ◌<◌, ◌≤◌, min, Bool, true, false, cond, not, ◌&&◌, List, [], ◌∷◌, map, length, get_or, drop, set, is_ok, Some, None, Ok, Err, Option, Result, ◌==◌, ◌≢◌, nat_eq, nat_le, nat_lt, slice_index, slice_index_or, slice_set, refl}
+use Rattle.std.specs.Prelude.{◌≡◌, ℕ, suc, ◌+◌, ◌<◌, Bool, true, false, cond, not, ◌&&◌, List, [], ◌∷◌, map, length, get_or, set, find, position, zip, is_ok, Some, None, Ok, Err, Option, Result, ◌==◌, ◌≢◌, nat_eq, nat_le, nat_lt, slice_index, slice_set, refl}
 use Rattle.std.proofs.Common.{sym, ap, subst, ◌∙◌, ⊎_elim, arith}
-use Rattle.std.specs.Option.{option_or}
-use Rattle.std.proofs.lemmas.List.{length-set, get_or-set_same, get_or-set_other, set_past, drop_more, drop_all, at_drop_more, at_drop_all}
+use Rattle.std.specs.Option.{option_or, option_map}
+use Rattle.std.specs.List.{position_or_len}
+use Rattle.std.proofs.lemmas.List.{length-set, get_or-set_same, get_or-set_other, set_past}
+use Rattle.std.proofs.lemmas.Option.{none-some}
 use Rattle.std.proofs.lemmas.Bool.{and_parts, and_right, ltb-true, cond-true, cond-false, cases_eq, cases_lt, ne_eqb, true≢false}
 use Rattle.catalogue.specs.declared.entries.CatalogueFault.{CatalogueFault}
 use Rattle.catalogue.specs.declared.entries.CatalogueFault.TheVariants.{EntryCount}
 use Rattle.catalogue.specs.declared.entries.Entry.{Entry}
-use Rattle.catalogue.specs.Catalogues.{allows, kind_suits, read_fits, is_sound, entries_checked, Listed, blank}
+use Rattle.catalogue.specs.Catalogues.{allows, kind_suits, read_fits, is_sound, entries_checked, Listed}
 use Rattle.catalogue.proofs.Catalogues.{listed_from}
 use Rattle.rule.specs.declared.need.Need.{Need}
 use Rattle.rule.specs.Rules.{Finding, NamesPlaces, outside, ranges, DefaultsFit, items, is_broken, first_broken, Eases, both_find}
 
-none≢some : (i : ℕ) → None ≢ Some i
-none≢some i e = let z : ◌≡◌ {A = ℕ} 0 1 = cc in omega arith
-
 -- Ranges
 
 outside_place : (place : ℕ) (es : List Entry) (vs : List ℕ) (i : ℕ) → outside place es vs ≡ Some i → i < place + length es
-outside_place place [] vs i e = absurd (none≢some i e)
-outside_place place (x ∷ es) [] i e = absurd (none≢some i e)
+outside_place place [] vs i e = absurd (none-some i e)
+outside_place place (x ∷ es) [] i e = absurd (none-some i e)
 outside_place place (x ∷ es) (v ∷ vs) i e = go (allows x v) (outside_place (suc place) es vs i) e
   where
     go : (b : Bool) → (outside (suc place) es vs ≡ Some i → i < suc place + length es) → cond b (outside (suc place) es vs) (Some place) ≡ Some i → i < place + suc (length es)
@@ -29,31 +28,36 @@ outside_place place (x ∷ es) (v ∷ vs) i e = go (allows x v) (outside_place (
 pub ranges_places : NamesPlaces ranges
 ranges_places es vs i e = omega (arith, outside_place 0 es vs i e)
 
-outside_nil : (place : ℕ) (es : List Entry) → outside place es [] ≡ None
-outside_nil place [] = refl
-outside_nil place (e ∷ es) = refl
+-- the first pair of an entry and a value that is not allowed, as its item
+seen : ℕ → ℕ → ℕ → Option ℕ
+seen place n all = cond (nat_lt n all) (Some (place + n)) None
 
--- the walk over entries and values, which has found none outside before this place
-module _ (es : List Entry) (vs : List ℕ) (place : ℕ) (inv : outside place (drop place es) (drop place vs) ≡ ranges es vs) where
-  outside_on : place < length es → place < length vs
-      → cond (allows (slice_index_or es place blank) (slice_index vs place)) (outside (suc place) (drop (place + 1) es) (drop (place + 1) vs)) (Some place) ≡ ranges es vs
-  outside_on lt lv =
-      sym (ap (λ (l : List Entry). outside place l (drop place vs)) (drop_more es place blank lt) ∙ ap (outside place (slice_index_or es place blank ∷ drop (place + 1) es)) (drop_more vs place 0 lv)) ∙ inv
+seen_more : (place n all : ℕ) → seen place (1 + n) (suc all) ≡ seen (suc place) n all
+unfolding seen
+seen_more place n all = grind arith
 
-  pub outside_here : place < min (length es) (length vs) → false ≡ allows (slice_index_or es place blank) (slice_index vs place) → Some place ≡ ranges es vs
-  outside_here lt e = sym (cond-false _ _ _ (sym e)) ∙ outside_on (omega arith) (omega arith)
+seen_here : (place all : ℕ) → seen place 0 (suc all) ≡ Some place
+unfolding seen
+seen_here place all = grind arith
 
-  pub outside_past : place < min (length es) (length vs) → true ≡ allows (slice_index_or es place blank) (slice_index vs place) → outside (place + 1) (drop (place + 1) es) (drop (place + 1) vs) ≡ ranges es vs
-  outside_past lt e =
-      let next : place + 1 ≡ suc place = omega arith in
-      ap (λ k. outside k (drop (place + 1) es) (drop (place + 1) vs)) next ∙ sym (cond-true _ _ _ (sym e)) ∙ outside_on (omega arith) (omega arith)
+seen_first : (n all : ℕ) → cond (nat_lt n all) (Some n) None ≡ seen 0 n all
+unfolding seen
+seen_first n all = grind arith
 
-  pub outside_end : min (length es) (length vs) ≤ place → None ≡ ranges es vs
-  outside_end le =
-      ⊎_elim
-      (λ short. sym (ap (outside place (drop place es)) (drop_all place vs (omega arith)) ∙ outside_nil place (drop place es)) ∙ inv)
-      (λ long. sym (ap (λ (l : List Entry). outside place l (drop place vs)) (drop_all place es (omega arith))) ∙ inv)
-      (cases_lt (length vs) (length es))
+outside_seen : (place : ℕ) (es : List Entry) (vs : List ℕ)
+    → seen place (position_or_len (λ (p : Entry × ℕ). not (allows p.0 p.1)) (zip es vs)) (length (zip es vs)) ≡ outside place es vs
+unfolding seen
+outside_seen place [] vs = refl
+outside_seen place (e ∷ es) [] = refl
+outside_seen place (e ∷ es) (v ∷ vs) = go (allows e v) (outside_seen (suc place) es vs)
+  where
+    go : (b : Bool) → seen (suc place) (position_or_len (λ (p : Entry × ℕ). not (allows p.0 p.1)) (zip es vs)) (length (zip es vs)) ≡ outside (suc place) es vs
+        → seen place (cond (not (not b)) (1 + position_or_len (λ (p : Entry × ℕ). not (allows p.0 p.1)) (zip es vs)) 0) (suc (length (zip es vs))) ≡ cond b (outside (suc place) es vs) (Some place)
+    go true ih = seen_more place _ _ ∙ ih
+    go false ih = seen_here place _
+
+pub outside_is : (es : List Entry) (vs : List ℕ) (r : Option ℕ) → r ≡ position (λ (p : Entry × ℕ). not (allows p.0 p.1)) (zip es vs) → r ≡ ranges es vs
+outside_is es vs r e = e ∙ seen_first _ _ ∙ outside_seen 0 es vs
 
 -- the defaults of an accepted catalogue
 sound_default : (e : Entry) → is_sound e ≡ true → allows e e.default ≡ true
@@ -80,26 +84,25 @@ broken_place : (es : List Entry) (vs : List ℕ) (n : Need) → is_broken es vs 
 broken_place es vs n e = omega (arith, ltb-true n.first (items es vs) (and_parts _ _ e).0)
 
 pub needs_places : (ns : List Need) → NamesPlaces (first_broken ns)
-needs_places [] es vs i e = absurd (none≢some i e)
+needs_places [] es vs i e = absurd (none-some i e)
 needs_places (n ∷ ns) es vs i e = go (is_broken es vs n) refl (needs_places ns es vs i) e
   where
     go : (b : Bool) → is_broken es vs n ≡ b → (first_broken ns es vs ≡ Some i → i < length es) → cond b (Some n.first) (first_broken ns es vs) ≡ Some i → i < length es
     go true is ih h = let same : n.first ≡ i = cc in subst (λ k. k < length es) same (broken_place es vs n is)
     go false is ih h = ih h
 
--- the walk over the pairs, of which none before this one is broken
-module _ (ns : List Need) (es : List Entry) (vs : List ℕ) (k : ℕ) (d : Need) (inv : first_broken (drop k ns) es vs ≡ first_broken ns es vs) where
-  broken_on : k < length ns → cond (is_broken es vs (slice_index_or ns k d)) (Some (get_or ns k d).first) (first_broken (drop (k + 1) ns) es vs) ≡ first_broken ns es vs
-  broken_on lt = sym (at_drop_more (λ (l : List Need). first_broken l es vs) ns k d lt) ∙ inv
+-- the first pair that is broken, as its first item
+broken_found : (ns : List Need) (es : List Entry) (vs : List ℕ) → option_map (λ (n : Need). n.first) (find (is_broken es vs) ns) ≡ first_broken ns es vs
+broken_found [] es vs = refl
+broken_found (n ∷ ns) es vs = go (is_broken es vs n) (broken_found ns es vs)
+  where
+    go : (b : Bool) → option_map (λ (n : Need). n.first) (find (is_broken es vs) ns) ≡ first_broken ns es vs
+        → option_map (λ (n : Need). n.first) (cond b (Some n) (find (is_broken es vs) ns)) ≡ cond b (Some n.first) (first_broken ns es vs)
+    go true ih = refl
+    go false ih = ih
 
-  pub broken_here : k < length ns → true ≡ is_broken es vs (slice_index_or ns k d) → Some (get_or ns k d).first ≡ first_broken ns es vs
-  broken_here lt e = sym (cond-true _ _ _ (sym e)) ∙ broken_on lt
-
-  pub broken_past : k < length ns → false ≡ is_broken es vs (slice_index_or ns k d) → first_broken (drop (k + 1) ns) es vs ≡ first_broken ns es vs
-  broken_past lt e = sym (cond-false _ _ _ (sym e)) ∙ broken_on lt
-
-pub broken_end : (ns : List Need) (es : List Entry) (vs : List ℕ) (k : ℕ) → first_broken (drop k ns) es vs ≡ first_broken ns es vs → length ns ≤ k → None ≡ first_broken ns es vs
-broken_end ns es vs k inv le = sym (at_drop_all (λ (l : List Need). first_broken l es vs) ns k le) ∙ inv
+pub broken_is : (ns : List Need) (es : List Entry) (vs : List ℕ) (r : Option ℕ) → r ≡ option_map (λ (n : Need). n.first) (find (is_broken es vs) ns) → r ≡ first_broken ns es vs
+broken_is ns es vs r e = e ∙ broken_found ns es vs
 
 -- a value other than 0 where a pair is not first
 unbroken_set : (es : List Entry) (vs : List ℕ) (n : Need) (i v : ℕ) → (n.first ≢ i) → (v ≢ 0) → is_broken es vs n ≡ false → is_broken es (slice_set vs i v) n ≡ false
@@ -127,7 +130,7 @@ eases (n ∷ ns) es vs i v others some e = go (is_broken es vs n) refl (eases ns
   where
     go : (b : Bool) → is_broken es vs n ≡ b → (first_broken ns es vs ≡ None → first_broken ns es (slice_set vs i v) ≡ None)
         → cond b (Some n.first) (first_broken ns es vs) ≡ None → first_broken (n ∷ ns) es (slice_set vs i v) ≡ None
-    go true is ih h = absurd (none≢some n.first (sym h))
+    go true is ih h = absurd (none-some n.first (sym h))
     go false is ih h = cond-false _ _ _ (unbroken_set es vs n i v others.0 some is) ∙ ih h
 
 -- Both

@@ -9,8 +9,5 @@ use catalogue::Entry;
 pub fn is_fit<R: Rule>(rule: &R, entries: &[Entry], values: &[u64]) -> bool
     ensures { result ≡ is_fit (R.Rule.finding rule.now entries.now values.now) }
 {
-    match rule.find(entries, values) {
-        Some(_) => false,
-        None => true,
-    }
+    rule.find(entries, values).is_none()
 }

@@ -19,10 +19,9 @@ impl<A: Rule, B: Rule> Rule for Both<A, B> {
     ghost places = { λ r. both_places (A.Rule.finding r.first) (B.Rule.finding r.second) (A.Rule.places r.first) (B.Rule.places r.second) };
 
     fn find(&self, entries: &[Entry], values: &[u64]) -> Option<usize> {
-        match self.first.find(entries, values) {
-            Some(item) => Some(item),
-            None => self.second.find(entries, values),
-        }
+        self.first
+            .find(entries, values)
+            .or_else(|| self.second.find(entries, values))
     }
 }
 

@@ -5,9 +5,11 @@
 // need.rt, needs.rt  items that need one another
 // both.rt    two rules together
 // asking.rt  code over any rule
+// bench.rt   the rule of the worked examples
 #![tactic(auto)]
 
 mod asking;
+mod bench;
 mod both;
 mod need;
 mod needs;
@@ -15,6 +17,7 @@ mod ranges;
 mod traits;
 
 pub use asking::is_fit;
+pub use bench::bench_rule;
 pub use both::{Both, regrouped};
 pub use need::Need;
 pub use needs::Needs;

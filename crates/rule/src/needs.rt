@@ -7,6 +7,7 @@ pub mod calls;
 
 #[derive(Drop)]
 pub struct Needs {
+    // kept: fixed memory, since a receiver keeps its rule and has no heap once it is made
     pairs: [Need; 64],
     count: usize,
     ghost whole: { length pairs ≡ 64 },

@@ -1,17 +1,10 @@
 // The bench rule: ranges, then item 0 needs item 1.
-use catalogue::{Entry, bench_catalogue};
-use rule::{Both, Need, Needs, Ranges, Rule, is_fit};
+use catalogue::{Entry, Kind, bench_catalogue};
+use rule::{Need, Needs, Ranges, Rule, bench_rule, is_fit};
 
 // What the bench rule finds of one value for each item.
 fn found(values: &[u64]) -> Option<usize> {
-    let rule = Both {
-        first: Ranges,
-        second: Needs::new(&[Need {
-            first: 0,
-            second: 1,
-        }]),
-    };
-    rule.find(&bench_catalogue(), values)
+    bench_rule().find(&bench_catalogue(), values)
 }
 
 #[test]
@@ -36,7 +29,7 @@ fn fit_and_unfit_configurations(rt: HostRuntime) {
 fn two_s_complement_ranges(rt: HostRuntime) {
     let entry = Entry {
         key: 0x2001_0001,
-        kind: 1,
+        kind: Kind::Signed,
         default: 0,
         low: 0xfe,
         high: 3,

@@ -5,26 +5,17 @@ ghost use Rattle.catalogue.specs.Owned.{entries_of, accepted_entries};
 
 use super::Catalogue;
 use crate::entries::{Entry, check_catalogue};
+use crate::kind::Kind;
+use item::padded;
 
 // What stands behind the last entry.
 const NO_ENTRY: Entry = Entry {
     key: 0,
-    kind: 0,
+    kind: Kind::Unsigned,
     default: 0,
     low: 0,
     high: 0,
 };
-
-// The entries, with no entry behind them.
-fn padded(entries: &[Entry]) -> [Entry; 128]
-    requires { length entries.now ≤ 128 }
-    ensures value { take (length entries.now) result ≡ entries.now }
-    ensures len { length result ≡ 128 }
-{
-    let mut copy = [NO_ENTRY; 128];
-    copy[0..entries.len()].copy_from_slice(entries);
-    copy
-}
 
 impl Catalogue {
     // A copy of entries that were checked.
@@ -33,9 +24,8 @@ impl Catalogue {
         requires checked { is_ok (entries_checked 0 0 entries.now) ≡ true }
         ensures { entries_of result ≡ entries.now }
     {
-        let copy = padded(entries);
         Catalogue {
-            entries: copy,
+            entries: padded(entries, NO_ENTRY),
             count: entries.len(),
         }
     }
@@ -46,10 +36,7 @@ impl Catalogue {
     {
         match check_catalogue(entries) {
             Ok(()) => Catalogue::copied(entries),
-            Err(_) => Catalogue {
-                entries: [NO_ENTRY; 128],
-                count: 0,
-            },
+            Err(_) => Catalogue::copied(&[]),
         }
     }
 

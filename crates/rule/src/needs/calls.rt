@@ -1,5 +1,5 @@
 // Making the rule of needs, and asking it.
-ghost use Rattle.std.specs.Prelude.{◌≡◌, ◌≤◌, length, take};
+ghost use Rattle.std.specs.Prelude.{◌≡◌, ◌≤◌, length, take, find};
 ghost use Rattle.rule.specs.Rules.{is_broken, first_broken, Eases};
 ghost use Rattle.rule.specs.RulesLemmas.{needs_places};
 
@@ -7,6 +7,7 @@ use super::Needs;
 use crate::need::Need;
 use crate::traits::Rule;
 use catalogue::Entry;
+use item::padded;
 
 // What stands behind the last pair.
 const NO_NEED: Need = Need {
@@ -27,39 +28,14 @@ impl Need {
     }
 }
 
-// The first item of the first broken pair.
-fn first_broken(pairs: &[Need], entries: &[Entry], values: &[u64]) -> Option<usize>
-    ensures found { result ≡ first_broken pairs.now entries.now values.now }
-    ensures eases { Eases pairs.now entries.now values.now }
+// The first broken pair.
+fn broken_pair(pairs: &[Need], entries: &[Entry], values: &[u64]) -> Option<Need>
+    ensures { result ≡ find (is_broken entries.now values.now) pairs.now }
 {
-    for pair in pairs {
-        if pair.is_broken(entries, values) {
-            return Some(pair.first);
-        }
-    }
-    None
-}
-
-// Up to 64 pairs, with no pair behind them.
-fn padded(pairs: &[Need]) -> [Need; 64]
-    requires { length pairs.now ≤ 64 }
-    ensures value { take (length pairs.now) result ≡ pairs.now }
-    ensures len { length result ≡ 64 }
-{
-    let mut all = [NO_NEED; 64];
-    all[0..pairs.len()].copy_from_slice(pairs);
-    all
-}
-
-// The first 64 of the pairs.
-fn first_pairs(pairs: &[Need]) -> &[Need]
-    ensures value { result.now ≡ take 64 pairs.now }
-    ensures few { length result.now ≤ 64 }
-{
-    if pairs.len() <= 64 {
-        return pairs;
-    }
-    &pairs[0..64]
+    pairs
+        .iter()
+        .copied()
+        .find(|pair| pair.is_broken(entries, values))
 }
 
 impl Needs {
@@ -67,9 +43,9 @@ impl Needs {
     pub fn new(pairs: &[Need]) -> Needs
         ensures { take result.count result.pairs ≡ take 64 pairs.now }
     {
-        let read = first_pairs(pairs);
+        let read = &pairs[0..pairs.len().min(64)];
         Needs {
-            pairs: padded(read),
+            pairs: padded(read, NO_NEED),
             count: read.len(),
         }
     }
@@ -90,6 +66,6 @@ impl Rule for Needs {
         ensures found { result ≡ first_broken (take self.now.count self.now.pairs) entries.now values.now }
         ensures eases { Eases (take self.now.count self.now.pairs) entries.now values.now }
     {
-        first_broken(self.listed(), entries, values)
+        broken_pair(self.listed(), entries, values).map(|pair| pair.first)
     }
 }
