@@ -10,7 +10,7 @@ use crate::changes::ItemChanges;
 use crate::head::{HEAD, VALSET};
 use crate::key::key_at;
 use catalogue::{Catalogue, find_item};
-use item::{read_value, selector_of, size_of};
+use item::{Selector, read_value, size_of};
 use reference::Refusal;
 
 // The most entries of a request.
@@ -83,7 +83,7 @@ impl ItemChanges {
     fn remove_named(&mut self, catalogue: &Catalogue, number: u32) -> Result<usize, EntryFault>
         ensures { Taken (entries_of catalogue.now) (read_map (map deleted) (named_read (keys_named (selector_of number) (entries_of catalogue.now)))) 4 self.old.slots self.new.slots result }
     {
-        let selector = selector_of(number);
+        let selector = Selector::from(number);
         let mut named = false;
         for (item, entry) in catalogue.entries().iter().enumerate() {
             if selector.names(entry.key) {

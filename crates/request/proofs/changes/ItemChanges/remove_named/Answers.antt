@@ -15,10 +15,10 @@ loop-item-preserved c =
 
 pub returns-then-named : goal.returns-then-named
 returns-then-named c =
-    removing_end _ _ _ _ _ _ (rw c.selector_of-selector.ensures.value at c.loop-item.invariant)
+    removing_end _ _ _ _ _ _ (rw c.from-selector.ensures.value at c.loop-item.invariant)
     (rw c.entries-entry-items.ensures.value at c.loop-item-test.false) c.if-named.true
 
 pub returns-else-named : goal.returns-else-named
 returns-else-named c =
-    removing_none _ _ _ _ _ _ (rw c.selector_of-selector.ensures.value at c.loop-item.invariant)
+    removing_none _ _ _ _ _ _ (rw c.from-selector.ensures.value at c.loop-item.invariant)
     (rw c.entries-entry-items.ensures.value at c.loop-item-test.false) c.if-named.false
