@@ -48,7 +48,7 @@ impl fmt::Display for CallFault {
 impl Error for CallFault {}
 
 // The checks of the parts, in the order in which they are tried.
-#[derive(Clone, Copy, Debug)]
+#[derive(Clone, Copy, Debug, PartialEq, Eq)]
 pub enum PartsFault {
     Catalogue(CatalogueFault),
     BbrUnusable,
