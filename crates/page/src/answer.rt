@@ -9,7 +9,7 @@ ghost use Rattle.page.specs.Pages.{page_bytes, page_answer, page_out};
 use crate::draft::Draft;
 use crate::entry::{ENTRY, HEAD, MAX_ENTRIES, next_number};
 use catalogue::{Catalogue, Entry};
-use frame::{MAX_FRAME, write_frame};
+use frame::{Frame, MAX_FRAME, write_frame};
 use layer::Layer;
 use reference::Refusal;
 
@@ -54,7 +54,12 @@ fn put_frame(out: &mut [u8], draft: &Draft) -> usize
     ensures value { result ≡ length (draft_frame draft.now) }
     ensures out { out.new ≡ in_front (draft_frame draft.now) out.old }
 {
-    match write_frame(out, CLASS, VALGET, draft.payload()) {
+    let frame = Frame {
+        class: CLASS,
+        id: VALGET,
+        payload: draft.payload(),
+    };
+    match write_frame(out, &frame) {
         Ok(size) => size,
         Err(_) => 0,
     }
