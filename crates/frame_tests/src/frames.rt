@@ -1,7 +1,7 @@
 // One frame: what stands at its first byte, whole, cut or damaged, and how it is written.
 use frame::{
-    CheckBytes, Found, Frame, MAX_FRAME, MAX_PAYLOAD, Unheard, WriteFault, check_bytes, find,
-    start_of, write_frame,
+    CheckBytes, Frame, MAX_FRAME, MAX_PAYLOAD, Unheard, WriteFault, check_bytes, find, start_of,
+    write_frame,
 };
 use std::test::Fail;
 
@@ -67,14 +67,10 @@ fn a_good_frame_inside_a_damaged_one_is_heard(rt: HostRuntime) {
     bytes[1] = 0x62;
     bytes[4] = 17;
     bytes[6..23].copy_from_slice(&SET);
-    assert_eq!(rt;
-        find(&bytes),
-        Found {
-            noise: 6,
-            frame: Some(set_request()),
-            rest: &bytes[23..25],
-        }
-    );
+    let found = find(&bytes);
+    assert_eq!(rt; found.noise, 6);
+    assert_eq!(rt; found.frame, Some(set_request()));
+    assert_eq!(rt; found.rest.len(), 2);
 }
 
 #[test]
