@@ -21,8 +21,7 @@ use request::CONFIGURATION_CLASS;
 use rule::Rule;
 
 // The least room for an answer: the largest reply, and the verdict behind it.
-// kept: the room is a clause of each function here, since with an array of 790 bytes lent from the buffer (`first_chunk_mut`) the proof of what
-// stands behind the array runs out of steps
+// kept: the room is a clause of each function here; an array lent by `first_chunk_mut` was tried in a small crate alone, and its proof ran out of steps
 pub const ANSWER_ROOM: usize = 790;
 
 impl<B: Store, F: Store, R: Rule> Receiver<B, F, R> {
