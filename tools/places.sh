@@ -21,7 +21,7 @@ in_src '(Some|Ok|Err)\(([a-z_]+|\(\))\) => ((Some|Ok|Err)\(|true|false|[a-z_]+,|
 grep -rhoE '\bfn [a-z_0-9]+' crates/*/src | sort | uniq -d | show "2a names of functions that stand twice"
 copy=$(mktemp -d)
 trap 'rm -rf "$copy"' EXIT
-find crates -path '*/src/*' -name '*.rt' | while read -r file; do
+find crates -path '*/src/*' -name '*.rt' -not -path '*/out/*' | while read -r file; do
     mkdir -p "$copy/$(dirname "$file")"
     cp "$file" "$copy/${file%.rt}.rs"
 done

@@ -3,8 +3,8 @@ ghost use Rattle.std.specs.Prelude.{◌≡◌};
 ghost use Rattle.catalogue.specs.Owned.{entries_of};
 ghost use Rattle.reference.specs.Receiver.{written_one, written, after_battery};
 ghost use Rattle.request.specs.Changes.{change_of, changes_by};
-ghost use Rattle.reference.specs.Stores.{store_of};
 
+use crate::meaning::StoreMeaning;
 use crate::writing::{clear_all, put_value, remove_value};
 use catalogue::Catalogue;
 use layer::{Layer, Store};
@@ -13,7 +13,7 @@ use request::{Change, ItemChanges};
 
 // One item's change.
 fn apply_one<S: Store>(store: &mut S, key: u32, change: Change)
-    ensures { store_of S.Store.usable S.Layer.settings store.new ≡ written_one (change_of change) key (store_of S.Store.usable S.Layer.settings store.old) }
+    ensures { ⟦<S as StoreMeaning>⟧.store store.new ≡ written_one (change_of change) key (⟦<S as StoreMeaning>⟧.store store.old) }
 {
     match change {
         Change::Keep => {}
@@ -24,7 +24,7 @@ fn apply_one<S: Store>(store: &mut S, key: u32, change: Change)
 
 // Applies what becomes of each item, in ascending key order. What the store refuses is passed over.
 pub fn apply_changes<S: Store>(catalogue: &Catalogue, changes: &ItemChanges, store: &mut S)
-    ensures { store_of S.Store.usable S.Layer.settings store.new ≡ written (entries_of catalogue.now) (changes_by (entries_of catalogue.now) changes.now.slots) (store_of S.Store.usable S.Layer.settings store.old) }
+    ensures { ⟦<S as StoreMeaning>⟧.store store.new ≡ written (entries_of catalogue.now) (changes_by (entries_of catalogue.now) changes.now.slots) (⟦<S as StoreMeaning>⟧.store store.old) }
 {
     for (item, entry) in catalogue.entries().iter().enumerate() {
         apply_one(store, entry.key, changes.at(item));
@@ -33,7 +33,7 @@ pub fn apply_changes<S: Store>(catalogue: &Catalogue, changes: &ItemChanges, sto
 
 // A store that the battery keeps: cleared where it was lost.
 pub fn after_battery<S: Store>(battery: Battery, store: &mut S)
-    ensures { store_of S.Store.usable S.Layer.settings store.new ≡ after_battery battery (store_of S.Store.usable S.Layer.settings store.old) }
+    ensures { ⟦<S as StoreMeaning>⟧.store store.new ≡ after_battery battery (⟦<S as StoreMeaning>⟧.store store.old) }
 {
     match battery {
         Battery::Kept => {}

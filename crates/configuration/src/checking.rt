@@ -2,10 +2,10 @@
 ghost use Rattle.std.specs.Prelude.{◌≡◌};
 ghost use Rattle.catalogue.specs.Owned.{entries_of};
 ghost use Rattle.reference.specs.Parts.{parts_of, parts_checked, unless_faulty};
-ghost use Rattle.reference.specs.Stores.{store_of};
 ghost use Rattle.configuration.specs.Checking.{fault_behind};
 
 use crate::judging::fault_in;
+use crate::meaning::StoreMeaning;
 use crate::straying::stray_key;
 use catalogue::{Catalogue, Entry, check_catalogue};
 use layer::{Absent, Layer, Store};
@@ -19,7 +19,7 @@ fn check_behind<B: Store, F: Store, R: Rule>(
     flash: &F,
     rule: &R,
 ) -> Result<(), PartsFault>
-    ensures { result ≡ unless_faulty (fault_behind (parts_of (entries_of catalogue.now) (R.Rule.finding rule.now) (store_of B.Store.usable B.Layer.settings bbr.now) (store_of F.Store.usable F.Layer.settings flash.now))) }
+    ensures { result ≡ unless_faulty (fault_behind (parts_of (entries_of catalogue.now) (R.Rule.finding rule.now) (⟦<B as StoreMeaning>⟧.store bbr.now) (⟦<F as StoreMeaning>⟧.store flash.now))) }
 {
     if !bbr.is_usable() {
         return Err(PartsFault::BbrUnusable);
@@ -43,7 +43,7 @@ pub fn check<B: Store, F: Store, R: Rule>(
     flash: &F,
     rule: &R,
 ) -> Result<(), PartsFault>
-    ensures { result ≡ parts_checked (parts_of entries.now (R.Rule.finding rule.now) (store_of B.Store.usable B.Layer.settings bbr.now) (store_of F.Store.usable F.Layer.settings flash.now)) }
+    ensures { result ≡ parts_checked (parts_of entries.now (R.Rule.finding rule.now) (⟦<B as StoreMeaning>⟧.store bbr.now) (⟦<F as StoreMeaning>⟧.store flash.now)) }
 {
     check_catalogue(entries)?;
     check_behind(&Catalogue::new(entries), bbr, flash, rule)

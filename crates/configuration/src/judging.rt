@@ -2,23 +2,23 @@
 ghost use Rattle.std.specs.Prelude.{◌≡◌, map, length, take};
 ghost use Rattle.catalogue.specs.Owned.{entries_of};
 ghost use Rattle.reference.specs.Receiver.{configuration};
-ghost use Rattle.reference.specs.Stores.{store_of};
 ghost use Rattle.configuration.specs.Meaning.{item_value};
 
+use crate::meaning::StoreMeaning;
 use catalogue::{Catalogue, Entry};
 use layer::{Layer, Store};
 use rule::Rule;
 
 // The value that the store holds for an item, else its default.
 fn value_in<S: Store>(store: &S, entry: &Entry) -> u64
-    ensures { result ≡ item_value (store_of S.Store.usable S.Layer.settings store.now) entry.now }
+    ensures { result ≡ item_value (⟦<S as StoreMeaning>⟧.store store.now) entry.now }
 {
     store.value(entry.key).unwrap_or(entry.default)
 }
 
 // The configuration that a store gives: a value for each item, and behind them none that is read.
 fn values_in<S: Store>(catalogue: &Catalogue, store: &S) -> [u64; 128]
-    ensures row { take (length (entries_of catalogue.now)) result ≡ map (item_value (store_of S.Store.usable S.Layer.settings store.now)) (entries_of catalogue.now) }
+    ensures row { take (length (entries_of catalogue.now)) result ≡ map (item_value (⟦<S as StoreMeaning>⟧.store store.now)) (entries_of catalogue.now) }
     ensures len { length result ≡ 128 }
 {
     let mut values = [0u64; 128];
@@ -31,7 +31,7 @@ fn values_in<S: Store>(catalogue: &Catalogue, store: &S) -> [u64; 128]
 
 // The item at fault in the configuration that a store gives: none where the rule finds it fit.
 pub fn fault_in<S: Store, R: Rule>(catalogue: &Catalogue, store: &S, rule: &R) -> Option<usize>
-    ensures { result ≡ R.Rule.finding rule.now (entries_of catalogue.now) (configuration (entries_of catalogue.now) (store_of S.Store.usable S.Layer.settings store.now)) }
+    ensures { result ≡ R.Rule.finding rule.now (entries_of catalogue.now) (configuration (entries_of catalogue.now) (⟦<S as StoreMeaning>⟧.store store.now)) }
 {
     let entries = catalogue.entries();
     let values = values_in(catalogue, store);

@@ -7,15 +7,14 @@
 // stacking.rt   stacking RAM
 // straying.rt   the least key that a layer holds and no item has
 // checking.rt   the check of the parts of a receiver
-//
-// kept: contracts name a store by `store_of S.Store.usable S.Layer.settings`, since a trait over Store for one shorter word is no plainer: each
-// caller would need it as a bound
+// meaning.rt    what a store of the code is to the reference, for contracts
 #![tactic(auto)]
 
 mod applying;
 mod checking;
 mod gathering;
 mod judging;
+mod meaning;
 mod stacking;
 mod straying;
 mod writing;
@@ -24,5 +23,6 @@ pub use applying::{after_battery, apply_changes};
 pub use checking::check;
 pub use gathering::gathered;
 pub use judging::fault_in;
+pub use meaning::StoreMeaning;
 pub use stacking::{Stacked, stack_ram};
 pub use straying::{is_known, stray_key};

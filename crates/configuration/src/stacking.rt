@@ -4,10 +4,10 @@ ghost use Rattle.catalogue.specs.Owned.{entries_of};
 ghost use Rattle.store.specs.Slots.{settings_of};
 ghost use Rattle.reference.specs.Stores.{held};
 ghost use Rattle.reference.specs.Parts.{settings_by, stack_value, default_of, if_fit, stack_fault, stacked};
-ghost use Rattle.reference.specs.Stores.{store_of};
 
 use crate::gathering::gathered;
 use crate::judging::fault_in;
+use crate::meaning::StoreMeaning;
 use layer::{Layer, Stack, Store};
 use rule::Rule;
 use store::{Defaults, SlotTable};
@@ -20,7 +20,7 @@ pub struct Stacked {
 }
 
 fn gather_pile<B: Store, F: Store>(pile: &Stack<Stack<B, F>, Defaults>) -> SlotTable
-    ensures { settings_of result.slots ≡ settings_by (stack_value (held (store_of B.Store.usable B.Layer.settings pile.now.upper.upper)) (held (store_of F.Store.usable F.Layer.settings pile.now.upper.lower))) (entries_of pile.now.lower.catalogue) }
+    ensures { settings_of result.slots ≡ settings_by (stack_value (held (⟦<B as StoreMeaning>⟧.store pile.now.upper.upper)) (held (⟦<F as StoreMeaning>⟧.store pile.now.upper.lower))) (entries_of pile.now.lower.catalogue) }
 {
     gathered(&pile.lower.catalogue, pile)
 }
@@ -46,8 +46,8 @@ pub fn stack_ram<B: Store, F: Store, R: Rule>(
     pile: &Stack<Stack<B, F>, Defaults>,
     rule: &R,
 ) -> Stacked
-    ensures ram { settings_of result.ram.slots ≡ stacked (entries_of pile.now.lower.catalogue) (R.Rule.finding rule.now) (held (store_of B.Store.usable B.Layer.settings pile.now.upper.upper)) (held (store_of F.Store.usable F.Layer.settings pile.now.upper.lower)) }
-    ensures fault { result.fault ≡ stack_fault (entries_of pile.now.lower.catalogue) (R.Rule.finding rule.now) (held (store_of B.Store.usable B.Layer.settings pile.now.upper.upper)) (held (store_of F.Store.usable F.Layer.settings pile.now.upper.lower)) }
+    ensures ram { settings_of result.ram.slots ≡ stacked (entries_of pile.now.lower.catalogue) (R.Rule.finding rule.now) (held (⟦<B as StoreMeaning>⟧.store pile.now.upper.upper)) (held (⟦<F as StoreMeaning>⟧.store pile.now.upper.lower)) }
+    ensures fault { result.fault ≡ stack_fault (entries_of pile.now.lower.catalogue) (R.Rule.finding rule.now) (held (⟦<B as StoreMeaning>⟧.store pile.now.upper.upper)) (held (⟦<F as StoreMeaning>⟧.store pile.now.upper.lower)) }
 {
     let table = gather_pile(pile);
     let fault = fault_in(&pile.lower.catalogue, &table, rule);

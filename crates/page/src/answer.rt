@@ -8,12 +8,12 @@ ghost use Rattle.page.specs.Pages.{page_bytes, page_answer, page_out};
 ghost use Rattle.page.specs.declared.answer.PageFault.TheVariants.{Refused};
 
 use crate::draft::Draft;
-use crate::entry::{ENTRY, HEAD, entries_in, number_in};
+use crate::entry::{entries_in, number_in};
 use catalogue::Catalogue;
 use frame::{Frame, MAX_FRAME, write_frame};
 use layer::Layer;
 use reference::Refusal;
-use request::{CONFIGURATION_CLASS, VALGET};
+use request::{CONFIGURATION_CLASS, HEAD, KEY_BYTES, VALGET};
 use std::error::Error;
 use std::fmt;
 
@@ -52,7 +52,7 @@ fn drafted<L: Layer>(catalogue: &Catalogue, layer: &L, payload: &[u8]) -> Result
         return Err(Refusal::ShortPayload);
     }
     let mut draft = Draft::new(payload);
-    for (before, entry) in entries_in(payload).chunks(ENTRY).enumerate() {
+    for (before, entry) in entries_in(payload).chunks(KEY_BYTES).enumerate() {
         let number = number_in(catalogue, entry, before)?;
         draft.add_named(catalogue.entries(), layer, number);
     }

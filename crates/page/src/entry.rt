@@ -6,22 +6,14 @@ ghost use Rattle.page.specs.Walks.{nothing, EntryRead};
 
 use catalogue::{Catalogue, next_named};
 use reference::Refusal;
-use request::key_at;
-
-// How many bytes stand before the entries.
-pub(crate) const HEAD: usize = 4;
-
-// How many bytes an entry has, and how many entries there may be.
-pub(crate) const ENTRY: usize = 4;
-
-const MAX_ENTRIES: usize = 64;
+use request::{HEAD, KEY_BYTES, MAX_ENTRIES, key_at};
 
 // The key or selector of an entry with so many others before it.
 pub(crate) fn number_in(catalogue: &Catalogue, entry: &[u8], before: usize) -> Result<u32, Refusal>
     requires { before ≤ 64 }
     ensures { EntryRead (entries_of catalogue.now) before entry.now result }
 {
-    let place = HEAD + ENTRY * before;
+    let place = HEAD + KEY_BYTES * before;
     if before == MAX_ENTRIES {
         return Err(Refusal::TooManyEntries(place));
     }
@@ -45,7 +37,7 @@ pub(crate) fn entries_in(payload: &[u8]) -> &[u8]
 pub fn check_keys(catalogue: &Catalogue, payload: &[u8]) -> Result<(), Refusal>
     ensures { result ≡ ok_map nothing (keys_of (entries_of catalogue.now) payload.now) }
 {
-    for (before, entry) in entries_in(payload).chunks(ENTRY).enumerate() {
+    for (before, entry) in entries_in(payload).chunks(KEY_BYTES).enumerate() {
         number_in(catalogue, entry, before)?;
     }
     Ok(())

@@ -14,10 +14,10 @@ use item::{Selector, read_value, size_of};
 use reference::Refusal;
 
 // The most entries of a request.
-const MAX_ENTRIES: usize = 64;
+pub const MAX_ENTRIES: usize = 64;
 
 // The bytes of a key or selector.
-const KEY_BYTES: usize = 4;
+pub const KEY_BYTES: usize = 4;
 
 // A pair, and how many bytes it takes.
 #[derive(Clone, Copy)]

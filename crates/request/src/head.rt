@@ -18,7 +18,7 @@ pub const VALGET: u8 = 0x8b;
 pub const VALDEL: u8 = 0x8c;
 
 // The bytes before the data: version, layers, action, and one that is not read.
-pub(crate) const HEAD: usize = 4;
+pub const HEAD: usize = 4;
 
 // The byte at a place of a payload; 0 where the payload ends before it.
 pub fn byte_at(payload: &[u8], place: usize) -> u8

@@ -18,9 +18,9 @@ mod key;
 pub use action::Action;
 pub use change::Change;
 pub use changes::ItemChanges;
-pub use data::read_data;
+pub use data::{KEY_BYTES, MAX_ENTRIES, read_data};
 pub use head::{
-    CONFIGURATION_CLASS, VALDEL, VALGET, VALSET, action_of, byte_at, check_head, layers_of,
+    CONFIGURATION_CLASS, HEAD, VALDEL, VALGET, VALSET, action_of, byte_at, check_head, layers_of,
     same_layers,
 };
 pub use key::key_at;

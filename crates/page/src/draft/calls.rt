@@ -8,11 +8,11 @@ ghost use Rattle.reference.specs.Receiver.{pair_bytes, position_of};
 ghost use Rattle.page.specs.Drafts.{payload_of, finished, finished_by};
 
 use super::Draft;
-use crate::entry::HEAD;
 use crate::pair::put_pair;
 use catalogue::Entry;
 use item::Selector;
 use layer::Layer;
+use request::HEAD;
 
 // The version of a reply.
 const REPLY_VERSION: u8 = 1;
