@@ -37,6 +37,7 @@ fn check_behind<B: Store, F: Store, R: Rule>(
 }
 
 // The check of the parts: the first fault, in the order of the refusals' numbers.
+// kept: the parts are lent here, and making takes them; a struct of references would be made for this call alone
 pub fn check<B: Store, F: Store, R: Rule>(
     entries: &[Entry],
     bbr: &B,

@@ -14,6 +14,7 @@ pub mod making;
 pub mod meaning;
 pub mod named;
 
+// kept: contracts say `Kept`, since that the catalogue and the rule stay is a fact about two states, which no invariant of one can say
 #[derive(Drop)]
 pub struct Receiver<B: Store, F: Store, R: Rule> {
     // made of parts that the check refuses: every call is refused

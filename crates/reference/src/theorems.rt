@@ -60,6 +60,7 @@ pub fn naks_keep() -> u8
 }
 
 // Whatever catalogue, stores and rule a receiver is made of, the law holds of it.
+// kept: the parts are lent here too, and a struct of references would be made for this call alone
 pub fn law_follows<B: Store, F: Store, R: Rule>(
     catalogue: &[Entry],
     bbr: &B,

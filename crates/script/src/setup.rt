@@ -49,6 +49,7 @@ impl Setup {
         }
     }
 
+    // kept: this and `add_need` are a push each, into two fields, and a generic one would have to be told which
     pub fn add_entry(&mut self, entry: Entry) -> Result<(), AllocError>
         ensures entries { self.new.entries.items ≡ (if is_ok result then self.old.entries.items ++ entry ∷ [] else self.old.entries.items) }
         ensures needs { self.new.needs ≡ self.old.needs }
