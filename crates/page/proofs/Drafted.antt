@@ -18,13 +18,26 @@ use Rattle.page.specs.Walks.{keys_behind}
 
 -- The beginning
 
-pub position_is : (p : List ℕ) → 4 ≤ length p → get_or p 2 0 + 256 * get_or p 3 0 ≡ position_of p
+pub position_is : (bs : List ℕ) → length bs ≡ 2 → get_or bs 0 0 + 256 * get_or bs 1 0 ≡ number bs
 unfolding number
-position_is [] le = absurd (omega arith)
-position_is (a ∷ []) le = absurd (omega arith)
-position_is (a ∷ b ∷ []) le = absurd (omega arith)
-position_is (a ∷ b ∷ c ∷ []) le = absurd (omega arith)
-position_is (a ∷ b ∷ c ∷ d ∷ p) le = omega arith
+position_is [] e = absurd (omega arith)
+position_is (a ∷ []) e = absurd (omega arith)
+position_is (a ∷ b ∷ []) e = omega arith
+position_is (a ∷ b ∷ c ∷ bs) e = absurd (omega arith)
+
+pub head_sent : (p : List ℕ) → 4 ≤ length p → 1 ∷ get_or p 1 0 ∷ get_or p 2 0 ∷ get_or p 3 0 ∷ [] ≡ 1 ∷ take 3 (drop 1 p)
+head_sent [] le = absurd (omega arith)
+head_sent (a ∷ []) le = absurd (omega arith)
+head_sent (a ∷ b ∷ []) le = absurd (omega arith)
+head_sent (a ∷ b ∷ c ∷ []) le = absurd (omega arith)
+head_sent (a ∷ b ∷ c ∷ d ∷ p) le = refl
+
+pub position_sent : (p : List ℕ) → 4 ≤ length p → get_or p 2 0 ∷ get_or p 3 0 ∷ [] ≡ take 2 (drop 2 p)
+position_sent [] le = absurd (omega arith)
+position_sent (a ∷ []) le = absurd (omega arith)
+position_sent (a ∷ b ∷ []) le = absurd (omega arith)
+position_sent (a ∷ b ∷ c ∷ []) le = absurd (omega arith)
+position_sent (a ∷ b ∷ c ∷ d ∷ p) le = refl
 
 -- One pair more
 

@@ -8,12 +8,12 @@ ghost use Rattle.page.specs.Pages.{page_bytes, page_answer, page_out};
 ghost use Rattle.page.specs.declared.answer.PageFault.TheVariants.{Refused};
 
 use crate::draft::Draft;
-use crate::entry::{entries_in, number_in};
+use crate::entry::number_in;
 use catalogue::Catalogue;
 use frame::{Frame, MAX_FRAME, write_frame};
 use layer::Layer;
 use reference::Refusal;
-use request::{CONFIGURATION_CLASS, HEAD, KEY_BYTES, VALGET};
+use request::{CONFIGURATION_CLASS, KEY_BYTES, VALGET};
 use std::error::Error;
 use std::fmt;
 
@@ -48,11 +48,11 @@ impl Error for PageFault {}
 fn drafted<L: Layer>(catalogue: &Catalogue, layer: &L, payload: &[u8]) -> Result<Draft, Refusal>
     ensures { ok_map draft_frame result ≡ page_bytes (entries_of catalogue.now) (L.Layer.settings layer.now) payload.now }
 {
-    if payload.len() < HEAD {
+    let [_version, layers, low, high, entries @ ..] = payload else {
         return Err(Refusal::ShortPayload);
-    }
-    let mut draft = Draft::new(payload);
-    for (before, entry) in entries_in(payload).chunks(KEY_BYTES).enumerate() {
+    };
+    let mut draft = Draft::new(*layers, [*low, *high]);
+    for (before, entry) in entries.chunks(KEY_BYTES).enumerate() {
         let number = number_in(catalogue, entry, before)?;
         draft.add_named(catalogue.entries(), layer, number);
     }

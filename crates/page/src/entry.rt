@@ -17,17 +17,13 @@ pub(crate) fn number_in(catalogue: &Catalogue, entry: &[u8], before: usize) -> R
     if before == MAX_ENTRIES {
         return Err(Refusal::TooManyEntries(place));
     }
-    let Some(number) = key_at(entry) else {
-        return Err(Refusal::CutEntry(place));
-    };
-    match next_named(catalogue.entries(), number, 0) {
-        Some(_) => Ok(number),
-        None => Err(Refusal::UnknownKey(place)),
-    }
+    let number = key_at(entry).ok_or(Refusal::CutEntry(place))?;
+    next_named(catalogue.entries(), number, 0).ok_or(Refusal::UnknownKey(place))?;
+    Ok(number)
 }
 
 // The bytes of a get's entries: all that stand behind its head.
-pub(crate) fn entries_in(payload: &[u8]) -> &[u8]
+fn entries_in(payload: &[u8]) -> &[u8]
     ensures { result.now ≡ drop 4 payload.now }
 {
     &payload[HEAD.min(payload.len())..]

@@ -1,23 +1,22 @@
-use Rattle.std.proofs.Common.{◌+◌, ◌*◌, Ok, Err, rules, subst, arith}
-use Rattle.reference.specs.declared.refusal.Refusal.TheVariants.{UnknownKey}
-use Rattle.page.specs.Walks.{EntryRead}
+use Rattle.std.proofs.Common.{◌≡◌, Some, rules, arith}
+use Rattle.item.specs.Selectors.{selector_of}
+use Rattle.catalogue.specs.Owned.{entries_of}
+use Rattle.catalogue.specs.Catalogues.{NextNamed}
+use Rattle.request.specs.Keys.{key_in}
 use Rattle.page.proofs.Walks.{entry_many, entry_cut, entry_unknown, entry_known}
 use Rattle.page.proofs.entry.number_in.Goals as goal
 
 pub returns-then-before-eq-MAX_ENTRIES : goal.returns-then-before-eq-MAX_ENTRIES
 returns-then-before-eq-MAX_ENTRIES c = search (rules, entry_many)
 
-pub returns-in_default : goal.returns-in_default
-returns-in_default c = let cut = c.in_default.ensures in search (rules, entry_cut)
+pub returns-in_err-number : goal.returns-in_err-number
+returns-in_err-number c = search (rules, entry_cut)
 
-pub returns-in-Some-next_named : goal.returns-in-Some-next_named
-returns-in-Some-next_named c =
-    let named = c.in-Some-next_named.ensures.next in
-    subst (λ es. EntryRead es c.args.before c.args.entry.now (Ok c.in-Some.number)) c.entries.ensures.value
-    (omega arith, λ rest some whole. entry_known _ _ _ rest c.requires c.if-before-eq-MAX_ENTRIES.false some _ c.in-Some.ensures _ _ whole named.2)
+pub returns-in_err-ok_or : goal.returns-in_err-ok_or
+returns-in_err-ok_or c = search (rules, entry_unknown)
 
-pub returns-in-None : goal.returns-in-None
-returns-in-None c =
-    let none = c.in-None.ensures.next in
-    subst (λ es. EntryRead es c.args.before c.args.entry.now (Err (UnknownKey (4 + 4 * c.args.before)))) c.entries.ensures.value
-    (λ rest some whole. entry_unknown _ _ _ rest c.requires c.if-before-eq-MAX_ENTRIES.false some _ c.in-Some.ensures none)
+pub returns : goal.returns
+returns c =
+    let next : NextNamed (selector_of c.in_ok-number.number) 0 (entries_of c.args.catalogue.now) (Some c.in_ok-ok_or.field-0) = search rules in
+    let key : Some c.in_ok-number.number ≡ key_in c.args.entry.now = search rules in
+    (omega arith, λ rest some whole. entry_known _ _ _ rest c.requires c.if-before-eq-MAX_ENTRIES.false some _ key _ _ whole next.2)
