@@ -38,4 +38,4 @@ for word in 'state_of B\.Store' 'step_of B\.Store' 'store_of [BFS]\.Store' 'part
 done
 in_src '\[[A-Za-z0-9_]+; [A-Z0-9_]+\]' | grep -v '_tests/' | grep -vE '\b(const|let)\b' | show "6 arrays in types, and literals of them"
 in_src '\bdyn |\bfn\(|match (name|layer|id|action|kind|number)\b|if (id|action|kind)\b' | show "7 switches on a step, and tables of functions"
-find crates -path '*/proofs/*' -name Answers.antt | xargs grep -hE '^pub [a-z]' | show "8 answers"
+find crates -path '*/proofs/*' -name Answers.antt -not -path '*/out/*' | xargs grep -hE '^pub [a-z]' | show "8 answers"

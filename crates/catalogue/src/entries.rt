@@ -67,7 +67,7 @@ impl CatalogueFault {
     }
 
     // The entry at fault; 0 where it is none in particular.
-    // kept: no Option, since `number` already says whether there is one, and callers print the entry beside it
+    // kept: public, and promises a number for each fault; an Option would promise something else
     pub fn entry(self) -> usize
         ensures { result ≡ fault_entry self }
     {

@@ -37,7 +37,7 @@ fn check_behind<B: Store, F: Store, R: Rule>(
 }
 
 // The check of the parts: the first fault, in the order of the refusals' numbers.
-// kept: the parts are lent here, and making takes them; a struct of references would be made for this call alone
+// kept: the parts are lent, since they may be checked before they are given away; a struct of references would be made for each check
 pub fn check<B: Store, F: Store, R: Rule>(
     entries: &[Entry],
     bbr: &B,

@@ -33,6 +33,15 @@ bytes_back (b ∷ bs) fit =
     ap (λ x. x ∷ bytes_of (length bs) ((b + 256 * number bs) / 256)) low ∙ ap (λ m. b ∷ bytes_of (length bs) m) high
     ∙ ap (λ (xs : List ℕ). b ∷ xs) (bytes_back bs (λ i. fit (suc i)))
 
+-- one byte more at the low end
+pub bytes_more : (k n b : ℕ) → b < 256 → bytes_of (k + 1) (n * 256 + b) ≡ b ∷ bytes_of k n
+unfolding bytes_of
+bytes_more k n b small =
+    let e : k + 1 ≡ suc k = omega arith in
+    let low : (n * 256 + b) % 256 ≡ b = omega arith in
+    let high : (n * 256 + b) / 256 ≡ n = omega arith in
+    ap (λ w. bytes_of w (n * 256 + b)) e ∙ ap (λ x. x ∷ bytes_of k ((n * 256 + b) / 256)) low ∙ ap (λ m. b ∷ bytes_of k m) high
+
 -- zeros behind the bytes count for nothing
 number_zeros : (n : ℕ) → number (replicate n 0) ≡ 0
 unfolding number

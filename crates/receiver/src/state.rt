@@ -18,7 +18,7 @@ pub mod named;
 #[derive(Drop)]
 pub struct Receiver<B: Store, F: Store, R: Rule> {
     // made of parts that the check refuses: every call is refused
-    // kept: making answers a receiver for all parts, and the reference's state has this mark
+    // kept: making gives a receiver for all parts, and a shut one gives them back; an enum of an open and a shut receiver would have the parts twice
     shut: bool,
     // what was taken and not dropped yet
     held: Held,

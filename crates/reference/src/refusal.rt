@@ -103,9 +103,20 @@ pub enum Verdict {
     Nak(Refusal),
 }
 
+// As listings name it.
+impl fmt::Display for Verdict {
+    fn fmt<W: fmt::Write>(&self, f: &mut fmt::Formatter<W>) -> fmt::Result {
+        match self {
+            Verdict::Outside => f.write_str("out"),
+            Verdict::Ack => f.write_str("ack"),
+            Verdict::Nak(_) => f.write_str("nak"),
+        }
+    }
+}
+
 impl Verdict {
     // The number of the refusal, 0 where there is none.
-    // kept: it promises 0 where there is none, and an Option would promise something else
+    // kept: public, and promises 0 where there is none; an Option would promise something else
     pub fn number(self) -> u8
         ensures { result ≡ verdict_number self }
     {

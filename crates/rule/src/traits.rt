@@ -9,7 +9,7 @@ pub trait Rule {
     ghost finding: { Self → Finding };
 
     // None where the configuration is fit, else the item at fault.
-    // kept: two slices side by side, since each caller has them apart, and a pair of them would only be made for the call and taken apart again
+    // kept: two slices side by side: the entries are a catalogue's and stay, the values are made for one question, and a struct of both would be made for each call
     fn find(&self, entries: &[Entry], values: &[u64]) -> Option<usize>
         ensures found { result ≡ finding self.now entries.now values.now };
 

@@ -8,21 +8,21 @@ use reference::{Battery, Call};
 use rule::Need;
 
 // The two stores that a script sets up.
-#[derive(Clone, Copy)]
+#[derive(Clone, Copy, PartialEq, Eq, Debug)]
 pub enum Place {
     Bbr,
     Flash,
 }
 
 // An empty table of slots, or nothing at all.
-#[derive(Clone, Copy)]
+#[derive(Clone, Copy, PartialEq, Eq, Debug)]
 pub enum Medium {
     Slots,
     Absent,
 }
 
 // What stands at a place: a medium, bare or under a saver.
-#[derive(Clone, Copy)]
+#[derive(Clone, Copy, PartialEq, Eq, Debug)]
 pub enum Choice {
     Bare(Medium),
     Saved(Medium),

@@ -51,7 +51,7 @@ fn number_in(base: u128, text: &str) -> Option<u128>
     digits_in(base, text.as_bytes())
 }
 
-// kept: each of these six is one line over number_in, of its own type and base, and a generic one would hide both
+// kept: each of these six is one line; a generic function would be told its base and its type at every call, and say no less
 
 // A key or a word: a hexadecimal number below 2^32.
 pub fn read_word(text: &str) -> Option<u32>

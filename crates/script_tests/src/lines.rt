@@ -6,10 +6,7 @@ use std::alloc::Global;
 use std::test::Fail;
 
 fn is_skipped(heap: Global, line: &str) -> bool {
-    match read_line(heap, line) {
-        Ok(None) => true,
-        _ => false,
-    }
+    matches!(read_line(heap, line), Ok(None))
 }
 
 #[test]
@@ -42,20 +39,10 @@ fn parts(rt: HostRuntime) -> Result<(), Fail> {
     Ok(())
 }
 
-// The two words that name a place and a choice.
-fn named(heap: Global, line: &str) -> Option<(u8, u8)> {
+// The place and the choice that a line names.
+fn named(heap: Global, line: &str) -> Option<(Place, Choice)> {
     let Ok(Some(Command::SetUp(Part::Store(place, choice)))) = read_line(heap, line) else {
         return None;
-    };
-    let place = match place {
-        Place::Bbr => 1,
-        Place::Flash => 2,
-    };
-    let choice = match choice {
-        Choice::Bare(Medium::Slots) => 0,
-        Choice::Bare(Medium::Absent) => 1,
-        Choice::Saved(Medium::Slots) => 2,
-        Choice::Saved(Medium::Absent) => 3,
     };
     Some((place, choice))
 }
@@ -63,10 +50,22 @@ fn named(heap: Global, line: &str) -> Option<(u8, u8)> {
 #[test]
 fn stores(rt: HostRuntime) {
     let heap = rt.alloc();
-    assert_eq!(rt; named(heap, "bbr slots"), Some((1, 0)));
-    assert_eq!(rt; named(heap, "flash absent"), Some((2, 1)));
-    assert_eq!(rt; named(heap, "flash saver slots"), Some((2, 2)));
-    assert_eq!(rt; named(heap, "bbr saver absent"), Some((1, 3)));
+    assert_eq!(rt;
+        named(heap, "bbr slots"),
+        Some((Place::Bbr, Choice::Bare(Medium::Slots)))
+    );
+    assert_eq!(rt;
+        named(heap, "flash absent"),
+        Some((Place::Flash, Choice::Bare(Medium::Absent)))
+    );
+    assert_eq!(rt;
+        named(heap, "flash saver slots"),
+        Some((Place::Flash, Choice::Saved(Medium::Slots)))
+    );
+    assert_eq!(rt;
+        named(heap, "bbr saver absent"),
+        Some((Place::Bbr, Choice::Saved(Medium::Absent)))
+    );
     assert_eq!(rt; named(heap, "bbr saver saver slots"), None);
     assert_eq!(rt; named(heap, "bbr slots 640"), None);
 }

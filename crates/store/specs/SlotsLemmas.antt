@@ -138,12 +138,12 @@ free_told ss (Some i) len first = (omega (arith, first.0), none_is (slice_index_
 
 -- Where a value goes
 
-place_held : (k i : ℕ) (ss : List (Option Setting)) → length ss ≡ 128 → apart ss ≡ true → Found k ss i → Place k ss i
-place_held k i ss len a f =
-    let out = settings_out k i ss (omega (arith, f.within)) f.before f.here in
+pub place_held : (k i : ℕ) (ss : List (Option Setting)) → length ss ≡ 128 → apart ss ≡ true → i < 128 → lacks k (take i ss) ≡ true → names k (slice_index_or ss i None) ≡ true → Place k ss i
+place_held k i ss len a lt h n =
+    let out = settings_out k i ss (omega arith) h n in
     record {
-      within = f.within;
-      alone = lacks_out k i ss a (omega (arith, f.within)) f.here;
+      within = lt;
+      alone = lacks_out k i ss a (omega arith) n;
       rest = λ v. sym (ap (with_value k v) out ∙ with_twice k v _ _);
       can = let e = ap (value_under k) out ∙ value_with_same k _ _ in grind (arith, nat_tests);
     }
@@ -169,7 +169,7 @@ pub place_chosen : {P : Type 0} (k : ℕ) (ss : List (Option Setting)) (o r : Op
     → (P → MatchOption r (used_in ss ≡ 128) (λ i. (i < 128) × (slice_index_or ss i None ≡ None)))
     → MatchOption o (Missing k ss) (λ i. Found k ss i) → MatchOption o P (λ i. r ≡ Some i) → MatchOption r (room k (settings_of ss) ≡ false) (λ i. Place k ss i)
 place_chosen k ss None r len a free missing new = place_new k ss r len a missing.lacking (free new)
-place_chosen k ss (Some i) r len a free found held = rw held (place_held k i ss len a found)
+place_chosen k ss (Some i) r len a free found held = rw held (place_held k i ss len a found.within found.before found.here)
 
 -- writing a slot
 pub put_settings : (k v i : ℕ) (ss : List (Option Setting)) → length ss ≡ 128 → Place k ss i → settings_of (slice_set ss i (holding k v)) ≡ with_value k v (settings_of ss)

@@ -1,5 +1,5 @@
 // A line of the listing.
-use reference::{Telling, Verdict};
+use reference::Telling;
 use std::fmt;
 
 // A told frame, and the place of its first byte in the input.
@@ -14,12 +14,8 @@ impl fmt::Display for Row {
         let place = self.place;
         let class = self.telling.class;
         let id = self.telling.id;
-        let verdict = match self.telling.verdict {
-            Verdict::Outside => "out",
-            Verdict::Ack => "ack",
-            Verdict::Nak(_) => "nak",
-        };
-        let number = self.telling.verdict.number();
+        let verdict = self.telling.verdict;
+        let number = verdict.number();
         write!(f, "{place} {class:02x} {id:02x} {verdict} {number}")
     }
 }

@@ -111,13 +111,10 @@ fn show_telling<W: fmt::Write>(
         verdict,
         length: _,
     } = *telling;
-    write!(f, "answer noise {noise} {class:02x} {id:02x} ")?;
+    write!(f, "answer noise {noise} {class:02x} {id:02x} {verdict}")?;
     match verdict {
-        Verdict::Outside => f.write_str("out"),
-        Verdict::Ack => {
-            f.write_str("ack")?;
-            show_written(f, written)
-        }
+        Verdict::Outside => Ok(()),
+        Verdict::Ack => show_written(f, written),
         Verdict::Nak(refusal) => {
             let number = refusal.number();
             let place = refusal.place();
@@ -126,7 +123,7 @@ fn show_telling<W: fmt::Write>(
                 Refusal::Unfit(_) => "item",
                 _ => "place",
             };
-            write!(f, "nak {number} {what} {place}")?;
+            write!(f, " {number} {what} {place}")?;
             show_written(f, written)
         }
     }

@@ -7,7 +7,7 @@ mod answers;
 mod help;
 mod session;
 
-use anyhow::bail;
+use anyhow::anyhow;
 use help::HELP;
 use options::{Input, run};
 use session::Session;
@@ -28,10 +28,9 @@ fn main(rt: HostRuntime) -> ExitCode {
 fn text_of(heap: Global, input: Input) -> anyhow::Result<String> {
     match input {
         Input::Standard(input) => Ok(io::read_to_string(heap, input)?),
-        Input::File(path, file) => match io::read_to_string(heap, file) {
-            Ok(text) => Ok(text),
-            Err(fault) => bail!("{path}: {fault}"),
-        },
+        Input::File(path, file) => {
+            io::read_to_string(heap, file).map_err(|fault| anyhow!("{path}: {fault}"))
+        }
     }
 }
 

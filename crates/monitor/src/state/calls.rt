@@ -87,6 +87,8 @@ impl Monitor {
     pub fn feed(&mut self, heap: Global, piece: &[u8]) -> Result<Vec<Row>, FeedFault>
         ensures value { Fed self.old piece.now self.new result }
         ensures line { Follows self.old piece.now self.new result }
+        ensures few_frames { self.new.frames ≤ self.new.place }
+        ensures few_noise { self.new.noise ≤ self.new.place }
     {
         self.place
             .checked_add(self.held.len() as u64)

@@ -43,10 +43,9 @@ impl Needs {
     pub fn new(pairs: &[Need]) -> Needs
         ensures { take result.count result.pairs ≡ take 64 pairs.now }
     {
-        let read = &pairs[0..pairs.len().min(64)];
         Needs {
-            pairs: padded(read, NO_NEED),
-            count: read.len(),
+            pairs: padded(pairs, NO_NEED),
+            count: pairs.len().min(64),
         }
     }
 

@@ -19,7 +19,7 @@ impl SlotTable {
     }
 
     // Another table that holds the same, to try a change on.
-    // kept: no `Clone` is derived where a struct has ghost fields, and one by hand may fail, which this cannot
+    // kept: a table is not `Copy`, so that no change is made to a copy unseen, and beside ghost fields no `Clone` is derived without `Copy`
     pub fn copied(&self) -> SlotTable
         ensures { settings_of result.slots ≡ settings_of self.now.slots }
     {
