@@ -11,13 +11,13 @@ use std::fmt;
 #[derive(Clone, Copy, Debug, PartialEq, Eq)]
 pub enum CallFault {
     // the receiver was made of parts that the check refuses
-    Shut,
+    Shut = 8,
     // an answering needs room for 790 bytes
-    BufferTooShort,
+    BufferTooShort = 9,
     // a looking at a layer that there is not, or at a Flash that is not usable
-    WrongLayer,
+    WrongLayer = 14,
     // a looking for a key that no item has
-    UnknownKey,
+    UnknownKey = 20,
 }
 
 impl CallFault {
@@ -25,12 +25,7 @@ impl CallFault {
     pub fn number(self) -> u8
         ensures { result ≡ call_fault_number self }
     {
-        match self {
-            CallFault::Shut => 8,
-            CallFault::BufferTooShort => 9,
-            CallFault::WrongLayer => 14,
-            CallFault::UnknownKey => 20,
-        }
+        self as u8
     }
 }
 

@@ -7,7 +7,7 @@ ghost use Rattle.request.specs.Reading.{pair_in, fault_at, entry_read, Taken, ch
 
 use crate::change::Change;
 use crate::changes::ItemChanges;
-use crate::head::{HEAD, VALSET};
+use crate::head::{HEAD, Request, VALSET};
 use crate::key::key_at;
 use catalogue::{Catalogue, find_item};
 use item::{Selector, read_value, size_of};
@@ -123,22 +123,24 @@ impl ItemChanges {
     }
 }
 
-// What the data of a set or delete make of each item: the last value of a key stands.
-pub fn read_data(catalogue: &Catalogue, id: u8, payload: &[u8]) -> Result<ItemChanges, Refusal>
-    ensures { changes_of (entries_of catalogue.now) result ≡ ok_map latest (data_of (entries_of catalogue.now) id payload.now) }
-{
-    let mut changes = ItemChanges::none();
-    // kept: entries differ in length, so no chunks or iterator of the library yields them
-    let mut place = HEAD;
-    for _entry in 0..MAX_ENTRIES {
-        if place >= payload.len() {
-            return Ok(changes);
+impl Request<'_> {
+    // What the data of a set or delete make of each item: the last value of a key stands.
+    pub fn read_data(&self, catalogue: &Catalogue) -> Result<ItemChanges, Refusal>
+        ensures { changes_of (entries_of catalogue.now) result ≡ ok_map latest (data_of (entries_of catalogue.now) self.now.id self.now.payload.now) }
+    {
+        let mut changes = ItemChanges::none();
+        // kept: entries differ in length, so no chunks or iterator of the library yields them
+        let mut place = HEAD;
+        for _entry in 0..MAX_ENTRIES {
+            if place >= self.payload.len() {
+                return Ok(changes);
+            }
+            let taken = changes.take_entry(catalogue, self.id, &self.payload[place..]);
+            place += taken.map_err(|fault| fault.at(place))?;
         }
-        let taken = changes.take_entry(catalogue, id, &payload[place..]);
-        place += taken.map_err(|fault| fault.at(place))?;
+        if place < self.payload.len() {
+            return Err(Refusal::TooManyEntries(place));
+        }
+        Ok(changes)
     }
-    if place < payload.len() {
-        return Err(Refusal::TooManyEntries(place));
-    }
-    Ok(changes)
 }

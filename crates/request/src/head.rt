@@ -1,4 +1,4 @@
-// The head of a payload: which layers and which action it names, and the checks of the head of a set or delete.
+// A request, and the head of its payload: which layers and which action it names, and the checks of the head of a set or delete.
 ghost use Rattle.std.specs.Prelude.{◌≡◌, Ok, slice_index};
 ghost use Rattle.reference.specs.Requests.{layers_of, same_layers, action_of};
 ghost use Rattle.request.specs.Head.{head_refusal, joining_refusal, after_head};
@@ -20,40 +20,18 @@ pub const VALDEL: u8 = 0x8c;
 // The bytes before the data: version, layers, action, and one that is not read.
 pub const HEAD: usize = 4;
 
+// A request as it is heard: a frame of the configuration class.
+#[derive(Clone, Copy, PartialEq, Eq, Debug)]
+pub struct Request<'a> {
+    pub id: u8,
+    pub payload: &'a [u8],
+}
+
 // The byte at a place of a payload; 0 where the payload ends before it.
 pub fn byte_at(payload: &[u8], place: usize) -> u8
     ensures { result ≡ slice_index payload.now place }
 {
     payload.get(place).copied().unwrap_or(0)
-}
-
-// The layers that a request is for: bit 0 RAM, 1 BBR, 2 Flash. Only a set chooses RAM, so only there bit 0 is read.
-#[tactic(auto, unfolding(reference::specs::Requests::layers_of))]
-pub fn layers_of(id: u8, payload: &[u8]) -> Layers
-    ensures { result ≡ layers_of id payload.now }
-{
-    let byte = byte_at(payload, 1);
-    Layers {
-        ram: id == VALSET && byte % 2 == 1,
-        bbr: byte / 2 % 2 == 1,
-        flash: byte / 4 % 2 == 1,
-    }
-}
-
-// What a request does with its data, by the bits 1..0 of a byte; version 0 only applies them.
-#[tactic(auto, unfolding(reference::specs::Requests::action_of))]
-pub fn action_of(payload: &[u8]) -> Action
-    ensures { action_number result ≡ action_of payload.now }
-{
-    if byte_at(payload, 0) != 1 {
-        return Action::Apply;
-    }
-    match byte_at(payload, 2) % 4 {
-        0 => Action::Apply,
-        1 => Action::Open,
-        2 => Action::Add,
-        _ => Action::Close,
-    }
 }
 
 // Whether two choices of layers are the same.
@@ -63,47 +41,69 @@ pub fn same_layers(a: Layers, b: Layers) -> bool
     a == b
 }
 
-// The checks of an action against the open transaction, which only some join.
-fn check_joining(
-    action: Action,
-    payload: &[u8],
-    layers: Layers,
-    opened: Option<Layers>,
-) -> Result<(), Refusal>
-    ensures { result ≡ after_head (joining_refusal (action_number action) payload.now layers opened) (Ok tt) }
-{
-    if !action.joins() {
-        return Ok(());
+impl Request<'_> {
+    // The layers that it is for: bit 0 RAM, 1 BBR, 2 Flash. Only a set chooses RAM, so only there bit 0 is read.
+    #[tactic(auto, unfolding(reference::specs::Requests::layers_of))]
+    pub fn layers(&self) -> Layers
+        ensures { result ≡ layers_of self.now.id self.now.payload.now }
+    {
+        let byte = byte_at(self.payload, 1);
+        Layers {
+            ram: self.id == VALSET && byte % 2 == 1,
+            bbr: byte / 2 % 2 == 1,
+            flash: byte / 4 % 2 == 1,
+        }
     }
-    let others = opened.ok_or(Refusal::NoneOpen)?;
-    if !same_layers(others, layers) {
-        return Err(Refusal::OtherLayers);
-    }
-    if action == Action::Add && payload.len() <= HEAD {
-        return Err(Refusal::NothingAdded);
-    }
-    Ok(())
-}
 
-// The checks of the head of a set or delete; the first that does not pass refuses it. `usable` says whether Flash is; `opened` are the layers of
-// the open transaction, none where none is open.
-pub fn check_head(
-    id: u8,
-    payload: &[u8],
-    usable: bool,
-    opened: Option<Layers>,
-) -> Result<(), Refusal>
-    ensures { result ≡ after_head (head_refusal id payload.now usable opened) (Ok tt) }
-{
-    if byte_at(payload, 0) > 1 {
-        return Err(Refusal::UnknownVersion);
+    // What it does with its data, by the bits 1..0 of a byte; version 0 only applies them.
+    #[tactic(auto, unfolding(reference::specs::Requests::action_of))]
+    pub fn action(&self) -> Action
+        ensures { action_number result ≡ action_of self.now.payload.now }
+    {
+        if byte_at(self.payload, 0) != 1 {
+            return Action::Apply;
+        }
+        match byte_at(self.payload, 2) % 4 {
+            0 => Action::Apply,
+            1 => Action::Open,
+            2 => Action::Add,
+            _ => Action::Close,
+        }
     }
-    let layers = layers_of(id, payload);
-    if !layers.ram && !layers.bbr && !layers.flash {
-        return Err(Refusal::NoLayer);
+
+    // The checks of its action against the open transaction, which only some join.
+    fn check_joining(&self, layers: Layers, opened: Option<Layers>) -> Result<(), Refusal>
+        ensures { result ≡ after_head (joining_refusal (action_of self.now.payload.now) self.now.payload.now layers opened) (Ok tt) }
+    {
+        let action = self.action();
+        if !action.joins() {
+            return Ok(());
+        }
+        let others = opened.ok_or(Refusal::NoneOpen)?;
+        if !same_layers(others, layers) {
+            return Err(Refusal::OtherLayers);
+        }
+        if action == Action::Add && self.payload.len() <= HEAD {
+            return Err(Refusal::NothingAdded);
+        }
+        Ok(())
     }
-    if layers.flash && !usable {
-        return Err(Refusal::WrongLayer);
+
+    // The checks of the head of a set or delete; the first that does not pass refuses it. `usable` says whether Flash is; `opened` are the layers
+    // of the open transaction, none where none is open.
+    pub fn check_head(&self, usable: bool, opened: Option<Layers>) -> Result<(), Refusal>
+        ensures { result ≡ after_head (head_refusal self.now.id self.now.payload.now usable opened) (Ok tt) }
+    {
+        if byte_at(self.payload, 0) > 1 {
+            return Err(Refusal::UnknownVersion);
+        }
+        let layers = self.layers();
+        if !layers.ram && !layers.bbr && !layers.flash {
+            return Err(Refusal::NoLayer);
+        }
+        if layers.flash && !usable {
+            return Err(Refusal::WrongLayer);
+        }
+        self.check_joining(layers, opened)
     }
-    check_joining(action_of(payload), payload, layers, opened)
 }

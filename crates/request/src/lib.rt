@@ -4,7 +4,7 @@
 // changes.rt  what becomes of each item
 // action.rt   what a request does with its data
 // key.rt      the key at a place of a payload
-// head.rt     the head of a payload and its checks
+// head.rt     a request, its head and the checks of it
 // data.rt     the walk over the data of a set or delete
 #![tactic(auto)]
 
@@ -18,9 +18,6 @@ mod key;
 pub use action::Action;
 pub use change::Change;
 pub use changes::ItemChanges;
-pub use data::{KEY_BYTES, MAX_ENTRIES, read_data};
-pub use head::{
-    CONFIGURATION_CLASS, HEAD, VALDEL, VALGET, VALSET, action_of, byte_at, check_head, layers_of,
-    same_layers,
-};
+pub use data::{KEY_BYTES, MAX_ENTRIES};
+pub use head::{CONFIGURATION_CLASS, HEAD, Request, VALDEL, VALGET, VALSET, byte_at, same_layers};
 pub use key::key_at;

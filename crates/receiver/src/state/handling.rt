@@ -17,7 +17,7 @@ use crate::first::{HeldFrame, first_in};
 use crate::transaction::Granted;
 use layer::Store;
 use reference::{Answered, CallFault, Refusal, Telling, Verdict};
-use request::CONFIGURATION_CLASS;
+use request::{CONFIGURATION_CLASS, Request};
 use rule::Rule;
 
 // The least room for an answer: the largest reply, and the verdict behind it.
@@ -32,7 +32,11 @@ impl<B: Store, F: Store, R: Rule> Receiver<B, F, R> {
         requires fits { end_of frame ≤ length (bytes_held self.now.held) }
         ensures { Judged (items_of self.now) out.old out.new (judged (items_of self.now) (R.Rule.finding self.now.rule) (⟦<Self as Meaning>⟧.state self.now) (message_in (bytes_held self.now.held) frame)) result }
     {
-        self.judge(frame.id, frame.payload(self.held.as_slice()), out)
+        let request = Request {
+            id: frame.id,
+            payload: frame.payload(self.held.as_slice()),
+        };
+        self.judge(&request, out)
     }
 
     // Handles a frame that is held: one of the configuration class is judged and carried out. Then it is dropped.

@@ -17,12 +17,11 @@ use crate::transaction::{Granted, Plan, Transaction};
 use configuration::{apply_changes, fault_in};
 use layer::Store;
 use reference::{Layers, Refusal};
-use request::{
-    Action, ItemChanges, VALDEL, VALGET, VALSET, action_of, check_head, layers_of, read_data,
-};
+use request::{Action, ItemChanges, Request, VALDEL, VALGET, VALSET};
 use rule::Rule;
 
 // Whether an ID is that of one of the three requests.
+// kept: a frame of any other ID is judged too, and refused, so its ID is a byte and no enum of the three
 fn is_request(id: u8) -> bool
     ensures { result ≡ (id == valset || (id == valget || id == valdel)) }
 {
@@ -88,25 +87,24 @@ impl<B: Store, F: Store, R: Rule> Receiver<B, F, R> {
     }
 
     // What an action does with the data of its frame and those queued. Closing does not read its own.
-    fn plan(&self, id: u8, payload: &[u8], layers: Layers, action: Action) -> Result<Plan, Refusal>
-        ensures { judgement_of (items_of self.now) result ≡ planned (items_of self.now) (R.Rule.finding self.now.rule) (⟦<Self as Meaning>⟧.state self.now) (carrying configuration_class id payload.now) layers (action_number action) }
+    fn plan(&self, request: &Request<'_>, layers: Layers, action: Action) -> Result<Plan, Refusal>
+        ensures { judgement_of (items_of self.now) result ≡ planned (items_of self.now) (R.Rule.finding self.now.rule) (⟦<Self as Meaning>⟧.state self.now) (carrying configuration_class request.now.id request.now.payload.now) layers (action_number action) }
     {
         if let Action::Close = action {
             let queue = self.queue();
             return self.plan_to_apply(layers, queue);
         }
-        let changes = read_data(&self.layers.lower.catalogue, id, payload)?;
-        self.plan_with(id, layers, action, changes)
+        let changes = request.read_data(&self.layers.lower.catalogue)?;
+        self.plan_with(request.id, layers, action, changes)
     }
 
     // A set or a delete.
-    fn judge_change(&self, id: u8, payload: &[u8]) -> Result<Plan, Refusal>
-        ensures { judgement_of (items_of self.now) result ≡ judged_change (items_of self.now) (R.Rule.finding self.now.rule) (⟦<Self as Meaning>⟧.state self.now) (carrying configuration_class id payload.now) }
+    fn judge_change(&self, request: &Request<'_>) -> Result<Plan, Refusal>
+        ensures { judgement_of (items_of self.now) result ≡ judged_change (items_of self.now) (R.Rule.finding self.now.rule) (⟦<Self as Meaning>⟧.state self.now) (carrying configuration_class request.now.id request.now.payload.now) }
     {
         let usable = self.layers.upper.lower.is_usable();
-        check_head(id, payload, usable, self.opened_layers())?;
-        let layers = layers_of(id, payload);
-        self.plan(id, payload, layers, action_of(payload))
+        request.check_head(usable, self.opened_layers())?;
+        self.plan(request, request.layers(), request.action())
     }
 
     // The layers that the open transaction was opened for.
@@ -117,31 +115,31 @@ impl<B: Store, F: Store, R: Rule> Receiver<B, F, R> {
     }
 
     // A set, a delete or a get whose payload has a head.
-    fn judge_request(&self, id: u8, payload: &[u8], out: &mut [u8]) -> Result<Granted, Refusal>
+    fn judge_request(&self, request: &Request<'_>, out: &mut [u8]) -> Result<Granted, Refusal>
         requires room { 790 ≤ length out.old }
-        requires long { 4 ≤ length payload.now }
-        ensures { Judged (items_of self.now) out.old out.new (if nat_eq id valget then judged_get (items_of self.now) (⟦<Self as Meaning>⟧.state self.now) (carrying configuration_class id payload.now) else judged_change (items_of self.now) (R.Rule.finding self.now.rule) (⟦<Self as Meaning>⟧.state self.now) (carrying configuration_class id payload.now)) result }
+        requires long { 4 ≤ length request.now.payload.now }
+        ensures { Judged (items_of self.now) out.old out.new (if nat_eq request.now.id valget then judged_get (items_of self.now) (⟦<Self as Meaning>⟧.state self.now) (carrying configuration_class request.now.id request.now.payload.now) else judged_change (items_of self.now) (R.Rule.finding self.now.rule) (⟦<Self as Meaning>⟧.state self.now) (carrying configuration_class request.now.id request.now.payload.now)) result }
     {
-        if id == VALGET {
-            let length = self.judge_get(payload, out)?;
+        if request.id == VALGET {
+            let length = self.judge_get(request.payload, out)?;
             Ok(Granted::Reply(length))
         } else {
-            let plan = self.judge_change(id, payload)?;
+            let plan = self.judge_change(request)?;
             Ok(Granted::Change(plan))
         }
     }
 
     // Any frame of the configuration class.
-    pub(crate) fn judge(&self, id: u8, payload: &[u8], out: &mut [u8]) -> Result<Granted, Refusal>
+    pub(crate) fn judge(&self, request: &Request<'_>, out: &mut [u8]) -> Result<Granted, Refusal>
         requires { 790 ≤ length out.old }
-        ensures { Judged (items_of self.now) out.old out.new (judged (items_of self.now) (R.Rule.finding self.now.rule) (⟦<Self as Meaning>⟧.state self.now) (carrying configuration_class id payload.now)) result }
+        ensures { Judged (items_of self.now) out.old out.new (judged (items_of self.now) (R.Rule.finding self.now.rule) (⟦<Self as Meaning>⟧.state self.now) (carrying configuration_class request.now.id request.now.payload.now)) result }
     {
-        if !is_request(id) {
+        if !is_request(request.id) {
             return Err(Refusal::OtherId);
         }
-        if payload.len() < 4 {
+        if request.payload.len() < 4 {
             return Err(Refusal::ShortPayload);
         }
-        self.judge_request(id, payload, out)
+        self.judge_request(request, out)
     }
 }

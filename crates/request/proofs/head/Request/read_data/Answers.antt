@@ -2,13 +2,13 @@ use Rattle.std.proofs.Common.{◌≡◌, ◌≢◌, ◌+◌, ◌-◌, rules, ari
 use Rattle.std.proofs.lemmas.Result.{err_from_is_err_and}
 use Rattle.request.proofs.Faults.{taken_is, refused_is}
 use Rattle.request.proofs.Walks.{data_start, data_more, data_fault, data_many, data_end}
-use Rattle.request.proofs.data.read_data.Goals as goal
+use Rattle.request.proofs.head.Request.read_data.Goals as goal
 
 pub loop-entry-init : goal.loop-entry-init
 loop-entry-init c = search (rules, data_start)
 
-pub returns-then-place-payload : goal.returns-then-place-payload
-returns-then-place-payload c = search (rules, data_end)
+pub returns-then-place-self : goal.returns-then-place-self
+returns-then-place-self c = search (rules, data_end)
 
 pub returns-in_err-place : goal.returns-in_err-place
 returns-in_err-place c =
@@ -16,7 +16,7 @@ returns-in_err-place c =
     let f = refused_is c.take_entry-taken.result c.in_err-place.field-0.0 _ _ c.loop-entry.place h.variant h.cases (λ e q. search rules) in
     let p = err_from_is_err_and c.from_residual.result c.from_residual.ensures.1 in
     rw (p.1, p.2)
-    (data_fault _ _ _ _ _ _ _ c.loop-entry.invariant _ _ _ _ c.if-place-payload.false (let pos : 64 - c.loop-entry._entry ≢ 0 = omega arith in pos)
+    (data_fault _ _ _ _ _ _ _ c.loop-entry.invariant _ _ _ _ c.if-place-self.false (let pos : 64 - c.loop-entry._entry ≢ 0 = omega arith in pos)
     (rw f.1 at c.take_entry-taken.ensures) f.2)
 
 pub loop-entry-preserved : goal.loop-entry-preserved
@@ -25,10 +25,10 @@ loop-entry-preserved c =
     let t = rw (taken_is c.take_entry-taken.result c.in_ok-place.field-0 _ h.variant h.cases) at c.take_entry-taken.ensures in
     let pos : 64 - c.loop-entry._entry ≢ 0 = omega arith in
     let next : 64 - c.loop-entry._entry - 1 ≡ 64 - (c.loop-entry._entry + 1) = omega arith in
-    rw (← next) (data_more _ _ _ _ _ _ _ c.loop-entry.invariant _ _ _ c.if-place-payload.false pos t)
+    rw (← next) (data_more _ _ _ _ _ _ _ c.loop-entry.invariant _ _ _ c.if-place-self.false pos t)
 
-pub returns-then-place-payload-2 : goal.returns-then-place-payload-2
-returns-then-place-payload-2 c = let e = c.loop-entry-test.false in search (rules, data_many)
+pub returns-then-place-self-2 : goal.returns-then-place-self-2
+returns-then-place-self-2 c = let e = c.loop-entry-test.false in search (rules, data_many)
 
 pub returns : goal.returns
 returns c = search (rules, data_end)
