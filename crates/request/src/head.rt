@@ -10,7 +10,7 @@ use reference::{Layers, Refusal};
 // The class of the three requests, and their IDs.
 pub const CONFIGURATION_CLASS: u8 = 0x06;
 
-// kept: an ID is any byte of the wire and each call here answers for every one, so an enum of the three would ask more of callers
+// kept: an ID goes back onto the wire in the verdict, and an enum with a case for every other byte would be turned back into the byte each time
 pub const VALSET: u8 = 0x8a;
 
 pub const VALGET: u8 = 0x8b;

@@ -24,6 +24,18 @@ pub(crate) enum NamedLayer<'a, B: Store, F: Store> {
     Defaults(&'a Defaults),
 }
 
+// One call at whichever of the four it is.
+macro_rules! at_each {
+    ($named:expr, $layer:ident => $call:expr) => {
+        match $named {
+            NamedLayer::Ram($layer) => $call,
+            NamedLayer::Bbr($layer) => $call,
+            NamedLayer::Flash($layer) => $call,
+            NamedLayer::Defaults($layer) => $call,
+        }
+    };
+}
+
 impl<'a, B: Store, F: Store> Layer for NamedLayer<'a, B, F> {
     ghost settings = { named_settings B.Layer.settings F.Layer.settings };
 
@@ -42,21 +54,11 @@ impl<'a, B: Store, F: Store> Layer for NamedLayer<'a, B, F> {
     ] };
 
     fn value(&self, key: u32) -> Option<u64> {
-        match self {
-            NamedLayer::Ram(layer) => layer.value(key),
-            NamedLayer::Bbr(layer) => layer.value(key),
-            NamedLayer::Flash(layer) => layer.value(key),
-            NamedLayer::Defaults(layer) => layer.value(key),
-        }
+        at_each!(self, layer => layer.value(key))
     }
 
     fn next_key(&self, number: u32) -> Option<u32> {
-        match self {
-            NamedLayer::Ram(layer) => layer.next_key(number),
-            NamedLayer::Bbr(layer) => layer.next_key(number),
-            NamedLayer::Flash(layer) => layer.next_key(number),
-            NamedLayer::Defaults(layer) => layer.next_key(number),
-        }
+        at_each!(self, layer => layer.next_key(number))
     }
 }
 
