@@ -3,3 +3,4 @@ pub mod Setups
 pub mod Fields
 pub mod Calls
 pub mod Lending
+pub mod Bases

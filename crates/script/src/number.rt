@@ -1,10 +1,14 @@
 // Numbers in text: hexadecimal and decimal digits, with no sign, no prefix and nothing between them.
 ghost use Rattle.std.specs.Prelude.{◌≡◌, ◌-◌, ◌^◌, ◌<◌, ◌≤◌};
 ghost use Rattle.script.specs.Numbers.{digit_of, digit_in, followed_by, number_in, up_to, capped};
+ghost use Rattle.script.specs.Bases.{digits_of};
 
-const TEN: u128 = 10;
-
-const SIXTEEN: u128 = 16;
+// The base of a number's digits.
+#[derive(Clone, Copy)]
+enum Base {
+    Decimal = 10,
+    Hexadecimal = 16,
+}
 
 // Counting stops here: no number of a script is as great.
 const CAP: u128 = 1 << 64;
@@ -21,29 +25,39 @@ fn digit_of(byte: u8) -> Option<u8>
     }
 }
 
+impl Base {
+    // How many digits it has.
+    fn digits(self) -> u128
+        ensures value { result ≡ digits_of self }
+        ensures some { 1 ≤ result }
+        ensures few { result ≤ 16 }
+    {
+        self as u128
+    }
+}
+
 // What a digit of this base is worth.
-fn digit_in(base: u128, byte: u8) -> Option<u128>
-    requires { 1 ≤ base }
-    ensures { result ≡ digit_in base byte }
+fn digit_in(base: Base, byte: u8) -> Option<u128>
+    ensures { result ≡ digit_in (digits_of base) byte }
 {
-    digit_of(byte).map(u128::from).filter(|digit| *digit < base)
+    digit_of(byte)
+        .map(u128::from)
+        .filter(|digit| *digit < base.digits())
 }
 
 // The number that all digits make, and the cap in place of any above it.
-fn digits_in(base: u128, digits: &[u8]) -> Option<u128>
-    requires { (1 ≤ base) × (base ≤ 16) }
-    ensures { result ≡ capped (2 ^ 64) (followed_by base 0 digits.now) }
+fn digits_in(base: Base, digits: &[u8]) -> Option<u128>
+    ensures { result ≡ capped (2 ^ 64) (followed_by (digits_of base) 0 digits.now) }
 {
     let mut number = 0u128;
     for byte in digits {
-        number = (number * base + digit_in(base, *byte)?).min(CAP);
+        number = (number * base.digits() + digit_in(base, *byte)?).min(CAP);
     }
     Some(number)
 }
 
-fn number_in(base: u128, text: &str) -> Option<u128>
-    requires { (1 ≤ base) × (base ≤ 16) }
-    ensures { result ≡ capped (2 ^ 64) (number_in base text.now) }
+fn number_in(base: Base, text: &str) -> Option<u128>
+    ensures { result ≡ capped (2 ^ 64) (number_in (digits_of base) text.now) }
 {
     if text.is_empty() {
         return None;
@@ -57,40 +71,40 @@ fn number_in(base: u128, text: &str) -> Option<u128>
 pub fn read_word(text: &str) -> Option<u32>
     ensures { result ≡ up_to (2 ^ 32 - 1) (number_in 16 text.now) }
 {
-    u32::try_from(number_in(SIXTEEN, text)?).ok()
+    u32::try_from(number_in(Base::Hexadecimal, text)?).ok()
 }
 
 // A byte: a hexadecimal number below 256.
 pub fn read_byte(text: &str) -> Option<u8>
     ensures { result ≡ up_to 255 (number_in 16 text.now) }
 {
-    u8::try_from(number_in(SIXTEEN, text)?).ok()
+    u8::try_from(number_in(Base::Hexadecimal, text)?).ok()
 }
 
 // A value: a decimal number below 2^64.
 pub fn read_value(text: &str) -> Option<u64>
     ensures { result ≡ up_to (2 ^ 64 - 1) (number_in 10 text.now) }
 {
-    u64::try_from(number_in(TEN, text)?).ok()
+    u64::try_from(number_in(Base::Decimal, text)?).ok()
 }
 
 // The kind of an item: a decimal number below 256.
 pub fn read_kind(text: &str) -> Option<u8>
     ensures { result ≡ up_to 255 (number_in 10 text.now) }
 {
-    u8::try_from(number_in(TEN, text)?).ok()
+    u8::try_from(number_in(Base::Decimal, text)?).ok()
 }
 
 // A count: any decimal number. One of 2^64 or more is read as 2^64 - 1.
 pub fn read_count(text: &str) -> Option<usize>
     ensures { result ≡ capped (2 ^ 64 - 1) (number_in 10 text.now) }
 {
-    Some(usize::try_from(number_in(TEN, text)?).unwrap_or(usize::MAX))
+    Some(usize::try_from(number_in(Base::Decimal, text)?).unwrap_or(usize::MAX))
 }
 
 // The number of a layer: any decimal number. One of 256 or more is read as 255, which is no layer's either.
 pub fn read_layer(text: &str) -> Option<u8>
     ensures { result ≡ capped 255 (number_in 10 text.now) }
 {
-    Some(u8::try_from(number_in(TEN, text)?).unwrap_or(u8::MAX))
+    Some(u8::try_from(number_in(Base::Decimal, text)?).unwrap_or(u8::MAX))
 }
