@@ -6,6 +6,7 @@ use receiver::{ANSWER_ROOM, Parts, Receiver};
 use reference::{Battery, Call};
 use replay::{Event, replay};
 use request::{VALGET, VALSET};
+use rule::bench_rule;
 use std::test::Fail;
 
 // A set of 5 under the key 20510001, in BBR alone.

@@ -141,8 +141,8 @@ fn answer_steps<W: Write>(
         flash,
     } = setup;
     let rule = rule_of(needs.as_slice());
-    let parts = Parts { bbr, flash, rule };
     let calls = calls_of(heap, steps)?;
+    let parts = Parts { bbr, flash, rule };
     let replayed = replay(heap, entries.as_slice(), parts, calls.as_slice())?;
     print_steps(out, steps, replayed.log.as_slice())
 }
