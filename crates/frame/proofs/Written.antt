@@ -94,6 +94,16 @@ module _ (m : Message) (old first second : List ℕ) (room : size_of m ≤ lengt
       ∙ patched_append 0 body ((check_bytes (body_of m)).a ∷ (check_bytes (body_of m)).b ∷ []) old (omega arith)
       ∙ patched_front (frame_bytes m) old
 
+-- The same, of the parts as they are overwritten one after the other: `header`, `payload` and `sums` are what stands in them then.
+pub parts_written : (m : Message) (old header payload sums size : List ℕ) (s : CheckBytes) (count summed end closing : ℕ) → size_of m ≤ length old → size ≡ to_le_bytes w16 (length m.payload) → length m.payload ≤ max_payload
+    → header ≡ preamble₁ ∷ preamble₂ ∷ m.class ∷ m.id ∷ get_or size 0 0 ∷ get_or size 1 0 ∷ [] → payload ≡ m.payload → count ≡ length m.payload
+    → summed ≡ 4 + length m.payload → s ≡ check_bytes (take summed (drop 2 (put_mid 6 count (put_mid 0 6 old header) payload)))
+    → end ≡ 6 + length m.payload → closing ≡ 2 → sums ≡ s.a ∷ s.b ∷ []
+    → put_mid end closing (put_mid 6 count (put_mid 0 6 old header) payload) sums ≡ in_front (frame_bytes m) old
+parts_written m old header payload sums size s count summed end closing room l few h p k n is e k₂ c =
+    frame_written m old (put_mid 0 6 old header) (put_mid 6 count (put_mid 0 6 old header) payload) room size l few (patched_part 0 6 _ old header refl h) (patched_part 6 count m.payload _ payload k p)
+    _ s summed end n is e (patched_part end closing _ _ sums k₂ c)
+
 -- which is heard as it was written
 pub heard_in_front : (m : Message) (out old : List ℕ) (n : ℕ) → length m.payload ≤ max_payload → out ≡ in_front (frame_bytes m) old → n ≡ size_of m → HeardAs m (take n out)
 heard_in_front m out old n few e is =

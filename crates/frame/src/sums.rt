@@ -36,10 +36,10 @@ impl CheckBytes {
         requires { count ≤ 4 + max_payload }
         ensures { result ≡ sums_between self end count }
     {
-        let before = (count * self.a as usize + self.b as usize) % 256;
+        let before = ((count * self.a as usize + self.b as usize) % 256) as u8;
         CheckBytes {
-            a: ((end.a as usize + 256 - self.a as usize) % 256) as u8,
-            b: ((end.b as usize + 256 - before) % 256) as u8,
+            a: end.a.wrapping_sub(self.a),
+            b: end.b.wrapping_sub(before),
         }
     }
 }

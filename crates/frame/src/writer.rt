@@ -5,7 +5,7 @@ ghost use Rattle.frame.specs.Meaning.{message_of};
 ghost use Rattle.frame.specs.Scanning.{HeardAs};
 ghost use Rattle.frame.specs.Written.{patched, in_front, written};
 
-use crate::format::{Frame, MAX_PAYLOAD, PREAMBLE};
+use crate::format::{Frame, HEADER, MAX_PAYLOAD, PREAMBLE, TRAILER};
 use crate::sums::check_bytes;
 use std::error::Error;
 use std::fmt;
@@ -29,17 +29,6 @@ impl fmt::Display for WriteFault {
 
 impl Error for WriteFault {}
 
-// Writes bytes from a place on; answers the place behind them.
-fn put(out: &mut [u8], place: usize, bytes: &[u8]) -> usize
-    requires { place + length bytes.now ≤ length out.old }
-    ensures out { out.new ≡ patched place bytes.now out.old }
-    ensures next { result ≡ place + length bytes.now }
-{
-    let next = place + bytes.len();
-    out[place..next].copy_from_slice(bytes);
-    next
-}
-
 // Writes the frame into a buffer that is long enough.
 fn put_frame(out: &mut [u8], frame: &Frame<'_>) -> usize
     requires few { length frame.now.payload.now ≤ max_payload }
@@ -50,10 +39,13 @@ fn put_frame(out: &mut [u8], frame: &Frame<'_>) -> usize
 {
     let Frame { class, id, payload } = *frame;
     let [low, high] = (payload.len() as u16).to_le_bytes();
-    let header = put(out, 0, &[PREAMBLE[0], PREAMBLE[1], class, id, low, high]);
-    let end = put(out, header, payload);
+    let end = HEADER + payload.len();
+    let size = end + TRAILER;
+    out[0..HEADER].copy_from_slice(&[PREAMBLE[0], PREAMBLE[1], class, id, low, high]);
+    out[HEADER..end].copy_from_slice(payload);
     let sums = check_bytes(&out[2..end]);
-    put(out, end, &[sums.a, sums.b])
+    out[end..size].copy_from_slice(&[sums.a, sums.b]);
+    size
 }
 
 // Writes the frame at the start of the buffer; answers how many bytes it has. A refusal leaves the buffer as it was.
