@@ -72,18 +72,8 @@ pub fn read_value(size: Size, bytes: &[u8]) -> Option<u64>
     Some(value_in(size, bytes))
 }
 
-// Writes a value that fits its size into a buffer that has room for it.
-fn put_value(out: &mut [u8], place: usize, size: Size, value: u64)
-    requires fits { fits size value ≡ true }
-    requires room { place + width_of size ≤ length out.old }
-    ensures out { out.new ≡ patched place (value_bytes size value) out.old }
-    ensures back { value_read size (drop place out.new) ≡ Some value }
-{
-    let width = size.width();
-    out[place..place + width].copy_from_slice(&value.to_le_bytes()[0..width]);
-}
-
 // Writes a value from a place of the buffer on; answers the place behind it. A refusal leaves the buffer as it was.
+// kept: buffer and place stand side by side, since any place is answered for; of a place beyond its end no part of the buffer could be lent
 pub fn write_value(
     out: &mut [u8],
     place: usize,
@@ -101,6 +91,6 @@ pub fn write_value(
     if out.len() < width || out.len() - width < place {
         return Err(ValueFault::BufferTooShort);
     }
-    put_value(out, place, size, value);
+    out[place..place + width].copy_from_slice(&value.to_le_bytes()[0..width]);
     Ok(place + width)
 }
