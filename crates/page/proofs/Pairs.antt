@@ -1,5 +1,5 @@
 -- A pair's bytes: key and value, one written behind the other.
-use Rattle.std.proofs.Common.{◌≡◌, ℕ, ◌+◌, ◌≤◌, true, List, ◌++◌, length, take, drop, Some, None, Option, sym, refl, ap, ◌∙◌, ap₂, append_assoc, arith}
+use Rattle.std.proofs.Common.{◌≡◌, ℕ, ◌+◌, ◌≤◌, true, List, ◌++◌, length, take, drop, Some, None, Option, sym, refl, ap, ◌∙◌, ap₂, append_assoc, zero-add, arith}
 use Rattle.std.proofs.lemmas.Bool.Decides.{nat_tests}
 use Rattle.std.proofs.lemmas.List.{length-append, length-take-le, take_at}
 use Rattle.std.specs.Option.{IsSome}
@@ -53,3 +53,9 @@ take_patched place n bs old out le e h =
     let t = length-take-le place old le in
     let long : length (take place old ++ bs) ≡ n = simp length-append (omega arith) in
     ap (take n) (h ∙ sym (append_assoc (take place old) bs (drop (place + length bs) old))) ∙ take_at (take place old ++ bs) (drop (place + length bs) old) n long
+
+-- a pair that stands at the start
+pub pair_stands : (k v : ℕ) (s : Size) → Some s ≡ size_of k → (n next : ℕ) (first second old : List ℕ) → 12 ≤ length old → next ≡ 4 → n ≡ 4 + width_of s → first ≡ patched 0 (bytes_of 4 k) old
+    → second ≡ patched next (bytes_of (width_of s) v) first → take n second ≡ pair_bytes (setting k v)
+pair_stands k v s e n next first second old room four is f g =
+    take_patched 0 n (pair_bytes (setting k v)) old second (omega arith) (is ∙ length_pair k v s e ∙ sym (zero-add (length (pair_bytes (setting k v))))) (pair_written k v s e 0 next first second old four room f g)

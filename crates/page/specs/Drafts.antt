@@ -7,7 +7,7 @@ use Rattle.reference.specs.Receiver.{held_pairs, pairs_bytes}
 use Rattle.page.specs.declared.draft.Draft.{Draft}
 
 abbrev pub payload_of : Draft → List ℕ
-payload_of d = take d.len d.bytes
+payload_of d = d.bytes.items
 
 -- the frame of a draft to which nothing is added any more
 abbrev pub draft_frame : Draft → List ℕ

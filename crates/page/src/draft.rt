@@ -1,15 +1,16 @@
 // A page's payload while it is built: the bytes so far, how many pairs are still to be skipped, and how many may still be written.
-ghost use Rattle.std.specs.Prelude.{◌≡◌, ◌+◌, ◌*◌, ◌≤◌, length};
+ghost use Rattle.std.specs.Prelude.{◌≡◌, ◌+◌, ◌*◌, ◌≤◌};
+ghost use Rattle.arrayvec.specs.ArrayVec.{array_vec_len};
+
+use arrayvec::ArrayVec;
+use frame::MAX_PAYLOAD;
 
 pub mod calls;
 
-// kept: an array with its length beside it, since a receiver has fixed memory and no heap once it is made
 #[derive(Drop)]
 pub struct Draft {
-    bytes: [u8; 772],
-    len: usize,
+    bytes: ArrayVec<u8, MAX_PAYLOAD>,
     skip: usize,
     left: usize,
-    ghost whole: { length bytes ≡ 772 },
-    ghost within: { len + 12 * left ≤ 772 },
+    ghost room: { array_vec_len bytes + 12 * left ≤ 772 },
 }

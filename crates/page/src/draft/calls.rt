@@ -8,11 +8,11 @@ ghost use Rattle.reference.specs.Receiver.{pair_bytes};
 ghost use Rattle.page.specs.Drafts.{payload_of, finished, finished_by};
 
 use super::Draft;
-use crate::pair::Pair;
+use crate::pair::{MAX_PAIR, Pair};
+use arrayvec::ArrayVec;
 use catalogue::Entry;
-use item::{Selector, padded};
+use item::Selector;
 use layer::{Layer, Setting};
-use request::HEAD;
 
 // The version of a reply.
 const REPLY_VERSION: u8 = 1;
@@ -29,9 +29,12 @@ impl Draft {
         ensures left { result.left ≡ 64 }
     {
         let [low, high] = position;
+        let mut bytes = ArrayVec::new();
+        bytes
+            .try_extend_from_slice(&[REPLY_VERSION, layers, low, high])
+            .unwrap();
         Draft {
-            bytes: padded(&[REPLY_VERSION, layers, low, high], 0),
-            len: HEAD,
+            bytes,
             skip: u16::from_le_bytes(position) as usize,
             left: MAX_PAIRS,
         }
@@ -42,7 +45,7 @@ impl Draft {
         ensures value { result.now ≡ payload_of self.now }
         ensures few { length result.now ≤ 772 }
     {
-        &self.bytes[0..self.len]
+        self.bytes.as_slice()
     }
 
     // Writes a pair behind the others.
@@ -52,8 +55,9 @@ impl Draft {
         ensures left { self.new.left ≡ self.old.left - 1 }
         ensures skip { self.new.skip ≡ self.old.skip }
     {
-        let place = self.len;
-        self.len = pair.write(&mut self.bytes, place);
+        let mut bytes = [0u8; MAX_PAIR];
+        let len = pair.write(&mut bytes);
+        self.bytes.try_extend_from_slice(&bytes[0..len]).unwrap();
         self.left -= 1;
     }
 

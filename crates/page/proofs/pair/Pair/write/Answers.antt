@@ -1,21 +1,31 @@
-use Rattle.std.proofs.Common.{◌≡◌, Some, rules}
-use Rattle.item.specs.Keys.{size_of}
-use Rattle.page.proofs.Pairs.{value_fits, has_size, width_few, length_pair, pair_written}
+use Rattle.std.proofs.Common.{◌≡◌, ◌+◌, Some, rules}
+use Rattle.frame.specs.Written.{patched}
+use Rattle.item.specs.Keys.{size_of, width_of}
+use Rattle.item.specs.Values.{bytes_of}
+use Rattle.page.proofs.Pairs.{value_fits, has_size, width_few, pair_stands}
 use Rattle.page.proofs.pair.Pair.write.Goals as goal
 
 pub unwrap-requires : goal.unwrap-requires
 unwrap-requires c = search (rules, has_size)
 
-pub put_value-requires-clause-fits : goal.put_value-requires-clause-fits
-put_value-requires-clause-fits c = let size = c.unwrap.ensures in search (rules, value_fits)
-
-pub returns-clause-out : goal.returns-clause-out
-returns-clause-out c =
-    let size : Some c.unwrap.result ≡ size_of c.args.self.now.setting.key = cc in
-    pair_written _ _ _ size _ _ _ _ _ c.put_value-behind.ensures.next c.requires.room c.put_value-behind.ensures.out c.put_value.ensures.out
-
-pub returns-clause-next : goal.returns-clause-next
-returns-clause-next c =
+pub unwrap-requires-2 : goal.unwrap-requires-2
+unwrap-requires-2 c =
     let size = c.unwrap.ensures in
     let few = width_few c.unwrap.result in
-    search (rules, length_pair)
+    let four : c.unwrap-behind.result ≡ 4 = search rules in
+    let first : c.write_value.new.out ≡ patched 0 (bytes_of 4 c.args.self.now.setting.key) c.args.out.now = search rules in
+    search (rules, value_fits)
+
+pub returns-clause-few : goal.returns-clause-few
+returns-clause-few c =
+    let few = width_few c.unwrap.result in
+    let four : c.unwrap-behind.result ≡ 4 = search rules in
+    search rules
+
+pub returns-clause-value : goal.returns-clause-value
+returns-clause-value c =
+    let size : Some c.unwrap.result ≡ size_of c.args.self.now.setting.key = cc in
+    let four : c.unwrap-behind.result ≡ 4 = search rules in
+    let first : c.write_value.new.out ≡ patched 0 (bytes_of 4 c.args.self.now.setting.key) c.args.out.now = search rules in
+    let end : c.unwrap-2.result ≡ 4 + width_of c.unwrap.result = search rules in
+    pair_stands _ _ _ size _ _ _ _ _ c.requires four end first (search rules)
