@@ -1,6 +1,7 @@
 // The input of a program.
 ghost use Rattle.std.specs.Prelude.{OnOk};
 ghost use Rattle.std.specs.Io.KnownBytes.{IsAtEnd};
+ghost use Rattle.options.specs.Pieces.{Handed};
 
 use anyhow::bail;
 use std::fs::File;
@@ -25,13 +26,15 @@ impl Read for Input {
     }
 }
 
-// Hands the whole input to `each`, in pieces, so that no more than some kilobytes are held, whatever the input's length.
+// Hands the whole input to `each`, piece after piece and in order, so that no more than some kilobytes are held, whatever the input's length.
+// The first failure, of a read or of `each`, ends it.
 pub fn for_each_piece<R: Read, F: FnMut(&[u8]) -> anyhow::Result<()>>(
     input: &mut R,
     mut each: F,
 ) -> anyhow::Result<()>
     requires { F.IsAlwaysCallable each }
     ensures end { OnOk result (IsAtEnd (R.remaining input.new)) }
+    ensures handed { OnOk result ((after : F) × Handed F.FnMut each after (R.remaining input.old) (R.remaining input.new)) }
 {
     let mut piece = [0u8; PIECE];
     for _ in 0..u64::MAX {
