@@ -1,5 +1,5 @@
 -- Laws of pieces that are handed on.
-use Rattle.std.proofs.Common.{◌≡◌, ℕ, List, [], ◌∷◌, ◌++◌, take, Some, None, Ok, Err, Option, Result, sym, refl, ap, subst, ◌∙◌, append_assoc, append-nil}
+use Rattle.std.proofs.Common.{◌≡◌, ℕ, List, [], ◌∷◌, ◌++◌, take, Some, None, Ok, Err, Option, Result, sym, refl, ap, subst, ◌∙◌, append_assoc}
 use Rattle.std.specs.Borrow.{Bor}
 use Rattle.std.specs.Fn.{Mut, CalledAt}
 use Rattle.std.specs.Io.KnownBytes.{Consumes, Keeps, ReadConsumes}
@@ -33,9 +33,6 @@ module _ {F E : Type 0} (g : Mut F (Bor (List ℕ) × Unit {0}) (Result (Unit {0
 
     pub kept_handed : Keeps b c → Handed g f h a c
     kept_handed k = (met.0, met.1, keeps_consumed a b c (joined met.0) met.2 k)
-
-    pub end_handed : (p : List ℕ) → p ≡ [] → Consumes b c p → Handed g f h a c
-    end_handed p none read = (met.0, met.1, subst (Consumes a c) (ap (λ (l : List ℕ). joined met.0 ++ l) none ∙ append-nil (joined met.0)) (consumes_more a b c (joined met.0) p met.2 read))
 
 -- what a read gave, by its answer
 pub read_gives : {E : Type 0} → (old new : Option (List ℕ)) (r : Result ℕ E) (n k : ℕ) (buf : List ℕ) → r ≡ Ok n → k ≡ n → ReadConsumes old new r buf → Consumes old new (take k buf)

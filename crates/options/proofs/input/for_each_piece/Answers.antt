@@ -1,14 +1,10 @@
-use Rattle.std.proofs.Common.{of_calls, refl, take, ap, arith}
-use Rattle.options.proofs.Handing.{none_handed, one_handed, kept_handed, end_handed, read_gives, read_keeps}
+use Rattle.std.proofs.Common.{of_calls, refl, arith}
+use Rattle.options.proofs.Handing.{none_handed, one_handed, kept_handed, read_gives, read_keeps}
 use Rattle.options.proofs.input.for_each_piece.Goals as goal
 use Rattle.options.proofs.input.for_each_piece.Goals.{in-Ok+in_ok-each-in-Ok, in-Err}
 
 pub loop-init : goal.loop-init
 loop-init g c = (c.requires, none_handed _ _ _)
-
-pub returns-in-Ok-eq0-clause-handed : goal.returns-in-Ok-eq0-clause-handed
-returns-in-Ok-eq0-clause-handed g c =
-    (_, end_handed _ _ _ _ _ _ c.loop.invariant.1 (take c.in-Ok-eq0.field-0 c.read.new.buf) (ap (λ n. take n c.read.new.buf) c.in-Ok-eq0.field-0-test) (read_gives _ _ _ _ _ _ c.in-Ok-eq0.is refl c.read.ensures.bytes))
 
 pub loop-preserved : goal.loop-preserved
 loop-preserved g c =
