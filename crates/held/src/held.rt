@@ -6,7 +6,7 @@ pub mod calls;
 
 #[derive(Drop)]
 pub struct Held {
-    // kept: fixed memory, since a receiver has no heap once it is made
+    // kept: fixed memory, and dropping moves `start` alone; a vector of fixed capacity would shift what is left
     bytes: [u8; 780],
     start: usize,
     end: usize,
