@@ -4,16 +4,17 @@ ghost use Rattle.rule.specs.Rules.{is_broken, first_broken, Eases};
 ghost use Rattle.rule.specs.RulesLemmas.{needs_places};
 
 use super::Needs;
+use crate::configuration::Configuration;
 use crate::need::Need;
 use crate::traits::Rule;
 use arrayvec::ArrayVec;
-use catalogue::Entry;
 
 impl Need {
     // Whether the first item has a value other than 0 and the second has not.
-    fn is_broken(&self, entries: &[Entry], values: &[u64]) -> bool
-        ensures { result ≡ is_broken entries.now values.now self.now }
+    fn is_broken(&self, configuration: Configuration<'_>) -> bool
+        ensures { result ≡ is_broken configuration.entry.entries.now configuration.entry.values.now self.now }
     {
+        let Configuration { entries, values } = configuration;
         let items = entries.len().min(values.len());
         self.first < items
             && self.second < items
@@ -23,13 +24,13 @@ impl Need {
 }
 
 // The first broken pair.
-fn broken_pair(pairs: &[Need], entries: &[Entry], values: &[u64]) -> Option<Need>
-    ensures { result ≡ find (is_broken entries.now values.now) pairs.now }
+fn broken_pair(pairs: &[Need], configuration: Configuration<'_>) -> Option<Need>
+    ensures { result ≡ find (is_broken configuration.entry.entries.now configuration.entry.values.now) pairs.now }
 {
     pairs
         .iter()
         .copied()
-        .find(|pair| pair.is_broken(entries, values))
+        .find(|pair| pair.is_broken(configuration))
 }
 
 impl Needs {
@@ -49,10 +50,10 @@ impl Rule for Needs {
 
     ghost places = { λ r. needs_places r.pairs.items };
 
-    fn find(&self, entries: &[Entry], values: &[u64]) -> Option<usize>
-        ensures found { result ≡ first_broken self.now.pairs.items entries.now values.now }
-        ensures eases { Eases self.now.pairs.items entries.now values.now }
+    fn find(&self, configuration: Configuration<'_>) -> Option<usize>
+        ensures found { result ≡ first_broken self.now.pairs.items configuration.entry.entries.now configuration.entry.values.now }
+        ensures eases { Eases self.now.pairs.items configuration.entry.entries.now configuration.entry.values.now }
     {
-        broken_pair(self.pairs.as_slice(), entries, values).map(|pair| pair.first)
+        broken_pair(self.pairs.as_slice(), configuration).map(|pair| pair.first)
     }
 }
