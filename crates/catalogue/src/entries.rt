@@ -12,7 +12,7 @@ use std::fmt;
 pub const MAX_ITEMS: usize = 128;
 
 // One item: its key, its kind, and its default, least and greatest value, as the unsigned numbers of their bytes.
-#[derive(Clone, Copy, PartialEq, Eq, Debug)]
+#[derive(Clone, Copy, PartialEq, Eq, Default, Debug)]
 pub struct Entry {
     pub key: u32,
     pub kind: Kind,

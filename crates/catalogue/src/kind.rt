@@ -4,8 +4,9 @@ ghost use Rattle.catalogue.specs.Kinds.{kind_of, is_signed, is_bits, is_known};
 
 // Unsigned numbers, two's complement numbers, and bits, which have no order and no bounds. A number that names no kind is kept, so that the
 // check of a catalogue can refuse its entry.
-#[derive(Clone, Copy, PartialEq, Eq, Debug)]
+#[derive(Clone, Copy, PartialEq, Eq, Default, Debug)]
 pub enum Kind {
+    #[default]
     Unsigned,
     Signed,
     Bits,

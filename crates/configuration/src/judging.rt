@@ -7,7 +7,7 @@ ghost use Rattle.configuration.specs.Meaning.{item_value};
 use crate::meaning::StoreMeaning;
 use catalogue::{Catalogue, Entry};
 use layer::{Layer, Store};
-use rule::Rule;
+use rule::{Configuration, Rule};
 
 // The value that the store holds for an item, else its default.
 fn value_in<S: Store>(store: &S, entry: &Entry) -> u64
@@ -35,5 +35,8 @@ pub fn fault_in<S: Store, R: Rule>(catalogue: &Catalogue, store: &S, rule: &R) -
 {
     let entries = catalogue.entries();
     let values = values_in(catalogue, store);
-    rule.find(entries, &values[0..entries.len()])
+    rule.find(Configuration {
+        entries,
+        values: &values[0..entries.len()],
+    })
 }

@@ -2,12 +2,12 @@
 ghost use Rattle.std.specs.Prelude.{◌≡◌};
 ghost use Rattle.rule.specs.Rules.{is_fit};
 
+use crate::configuration::Configuration;
 use crate::traits::Rule;
-use catalogue::Entry;
 
 // Whether a rule finds a configuration fit.
-pub fn is_fit<R: Rule>(rule: &R, entries: &[Entry], values: &[u64]) -> bool
-    ensures { result ≡ is_fit (R.Rule.finding rule.now entries.now values.now) }
+pub fn is_fit<R: Rule>(rule: &R, configuration: Configuration<'_>) -> bool
+    ensures { result ≡ is_fit (R.Rule.finding rule.now configuration.entry.entries.now configuration.entry.values.now) }
 {
-    rule.find(entries, values).is_none()
+    rule.find(configuration).is_none()
 }

@@ -4,8 +4,8 @@ ghost use Rattle.catalogue.specs.declared.entries.Entry.{Entry};
 ghost use Rattle.rule.specs.Rules.{both_find};
 ghost use Rattle.rule.specs.RulesLemmas.{both_places};
 
+use crate::configuration::Configuration;
 use crate::traits::Rule;
-use catalogue::Entry;
 
 #[derive(Drop)]
 pub struct Both<A, B> {
@@ -18,10 +18,12 @@ impl<A: Rule, B: Rule> Rule for Both<A, B> {
 
     ghost places = { λ r. both_places (A.Rule.finding r.first) (B.Rule.finding r.second) (A.Rule.places r.first) (B.Rule.places r.second) };
 
-    fn find(&self, entries: &[Entry], values: &[u64]) -> Option<usize> {
-        self.first
-            .find(entries, values)
-            .or_else(|| self.second.find(entries, values))
+    fn find(&self, configuration: Configuration<'_>) -> Option<usize> {
+        // kept: a match where `or_else` would do, since nothing is known of a closure that reads a struct with references
+        match self.first.find(configuration) {
+            Some(item) => Some(item),
+            None => self.second.find(configuration),
+        }
     }
 }
 

@@ -4,19 +4,20 @@ ghost use Rattle.catalogue.specs.Catalogues.{allows};
 ghost use Rattle.rule.specs.Rules.{ranges, DefaultsFit};
 ghost use Rattle.rule.specs.RulesLemmas.{ranges_places};
 
+use crate::configuration::Configuration;
 use crate::traits::Rule;
-use catalogue::Entry;
 
 #[derive(Clone, Copy, PartialEq, Eq, Debug)]
 pub struct Ranges;
 
 // The lowest item outside its bounds.
-fn first_outside(entries: &[Entry], values: &[u64]) -> Option<usize>
-    ensures { result ≡ position (λ p. not (allows p.0 p.1)) (zip entries.now values.now) }
+fn first_outside(configuration: Configuration<'_>) -> Option<usize>
+    ensures { result ≡ position (λ p. not (allows p.0 p.1)) (zip configuration.entry.entries.now configuration.entry.values.now) }
 {
-    entries
+    configuration
+        .entries
         .iter()
-        .zip(values)
+        .zip(configuration.values)
         .position(|(entry, value)| !entry.allows(*value))
 }
 
@@ -25,10 +26,10 @@ impl Rule for Ranges {
 
     ghost places = { λ r. ranges_places };
 
-    fn find(&self, entries: &[Entry], values: &[u64]) -> Option<usize>
-        ensures found { result ≡ ranges entries.now values.now }
-        ensures defaults { DefaultsFit entries.now values.now }
+    fn find(&self, configuration: Configuration<'_>) -> Option<usize>
+        ensures found { result ≡ ranges configuration.entry.entries.now configuration.entry.values.now }
+        ensures defaults { DefaultsFit configuration.entry.entries.now configuration.entry.values.now }
     {
-        first_outside(entries, values)
+        first_outside(configuration)
     }
 }

@@ -1,10 +1,13 @@
 // The bench rule: ranges, then item 0 needs item 1.
 use catalogue::{Entry, Kind, bench_catalogue};
-use rule::{Need, Needs, Ranges, Rule, bench_rule, is_fit};
+use rule::{Configuration, Need, Needs, Ranges, Rule, bench_rule, is_fit};
 
 // What the bench rule finds of one value for each item.
 fn found(values: &[u64]) -> Option<usize> {
-    bench_rule().find(&bench_catalogue(), values)
+    bench_rule().find(Configuration {
+        entries: &bench_catalogue(),
+        values,
+    })
 }
 
 #[test]
@@ -22,26 +25,39 @@ fn fit_and_unfit_configurations(rt: HostRuntime) {
     assert_eq!(rt; found(&[1, 0, 65, 0, 11, 0, 0]), Some(4));
     // a value for some items only
     assert_eq!(rt; found(&[1]), None);
-    assert!(rt; is_fit(&Ranges, &bench_catalogue(), &[]));
+    let nothing = Configuration {
+        entries: &bench_catalogue(),
+        values: &[],
+    };
+    assert!(rt; is_fit(&Ranges, nothing));
 }
 
 #[test]
 fn two_s_complement_ranges(rt: HostRuntime) {
-    let entry = Entry {
+    let entries = [Entry {
         key: 0x2001_0001,
         kind: Kind::Signed,
         default: 0,
         low: 0xfe,
         high: 3,
+    }];
+    let found = |value: u64| {
+        Ranges.find(Configuration {
+            entries: &entries,
+            values: &[value],
+        })
     };
-    assert_eq!(rt; Ranges.find(&[entry], &[0xff]), None);
-    assert_eq!(rt; Ranges.find(&[entry], &[0xfd]), Some(0));
-    assert_eq!(rt; Ranges.find(&[entry], &[4]), Some(0));
+    assert_eq!(rt; found(0xff), None);
+    assert_eq!(rt; found(0xfd), Some(0));
+    assert_eq!(rt; found(4), Some(0));
 }
 
 #[test]
 fn pairs_of_needs(rt: HostRuntime) {
-    let entries = bench_catalogue();
+    let configuration = Configuration {
+        entries: &bench_catalogue(),
+        values: &[1, 1, 1, 0, 0, 0, 0],
+    };
     // the first broken pair counts, and a pair beyond the catalogue is never broken
     let pairs = [
         Need {
@@ -57,24 +73,15 @@ fn pairs_of_needs(rt: HostRuntime) {
             second: 4,
         },
     ];
-    assert_eq!(rt;
-        Needs::new(&pairs).find(&entries, &[1, 1, 1, 0, 0, 0, 0]),
-        Some(2)
-    );
+    assert_eq!(rt; Needs::new(&pairs).find(configuration), Some(2));
     // the 64th pair is read, the 65th is not
     let mut many = [Need {
         first: 9,
         second: 9,
     }; 65];
     many[63] = pairs[1];
-    assert_eq!(rt;
-        Needs::new(&many).find(&entries, &[1, 1, 1, 0, 0, 0, 0]),
-        Some(2)
-    );
+    assert_eq!(rt; Needs::new(&many).find(configuration), Some(2));
     many[63] = many[0];
     many[64] = pairs[1];
-    assert_eq!(rt;
-        Needs::new(&many).find(&entries, &[1, 1, 1, 0, 0, 0, 0]),
-        None
-    );
+    assert_eq!(rt; Needs::new(&many).find(configuration), None);
 }

@@ -1,33 +1,22 @@
 // Copying a catalogue, and lending its entries.
-ghost use Rattle.std.specs.Prelude.{◌≡◌, ◌≤◌, true, length, take, is_ok};
+ghost use Rattle.std.specs.Prelude.{◌≡◌, ◌≤◌, true, length, is_ok};
 ghost use Rattle.catalogue.specs.Catalogues.{entries_checked, Listed};
 ghost use Rattle.catalogue.specs.Owned.{entries_of, accepted_entries};
 
 use super::Catalogue;
 use crate::entries::{Entry, check_catalogue};
-use crate::kind::Kind;
-use item::padded;
-
-// What stands behind the last entry.
-const NO_ENTRY: Entry = Entry {
-    key: 0,
-    kind: Kind::Unsigned,
-    default: 0,
-    low: 0,
-    high: 0,
-};
+use arrayvec::ArrayVec;
 
 impl Catalogue {
-    // A copy of entries that were checked.
+    // A copy of entries that were checked: the check lets through no more than there is room for.
     fn copied(entries: &[Entry]) -> Catalogue
         requires few { length entries.now ≤ 128 }
         requires checked { is_ok (entries_checked 0 0 entries.now) ≡ true }
         ensures { entries_of result ≡ entries.now }
     {
-        Catalogue {
-            entries: padded(entries, NO_ENTRY),
-            count: entries.len(),
-        }
+        let mut copy = ArrayVec::new();
+        copy.try_extend_from_slice(entries).unwrap();
+        Catalogue { entries: copy }
     }
 
     // A copy of the entries; of none where the check refuses them.
@@ -46,6 +35,6 @@ impl Catalogue {
         ensures few { length result.now ≤ 128 }
         ensures listed { Listed 0 result.now }
     {
-        &self.entries[0..self.count]
+        self.entries.as_slice()
     }
 }
