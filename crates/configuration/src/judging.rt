@@ -22,7 +22,7 @@ fn values_in<S: Store>(catalogue: &Catalogue, store: &S) -> [u64; 128]
     ensures len { length result ≡ 128 }
 {
     let entries = catalogue.entries();
-    std::array::from_fn(|item| { entries.get(item).map_or(0, |entry| value_in(store, entry)) })
+    std::array::from_fn(|item| entries.get(item).map_or(0, |entry| value_in(store, entry)))
 }
 
 // The item at fault in the configuration that a store gives: none where the rule finds it fit.

@@ -17,6 +17,8 @@ pub fn is_known(entries: &[Entry], key: u32) -> bool
 pub fn stray_key<L: Layer>(entries: &[Entry], layer: &L) -> Option<u32>
     ensures { result ≡ stray_key entries.now (L.Layer.settings layer.now) }
 {
+    // kept: tried as `successors(layer.next_key(0), ..).find(..)`, and what `find` asks stayed open: an iterator that is known to end, which std never
+    // says of `successors`; a `take` between them would need a bound that means nothing here
     let mut number = 0;
     while let Some(key) = layer.next_key(number) {
         if !is_known(entries, key) {
