@@ -23,6 +23,7 @@ fn apply_one<S: Store>(store: &mut S, key: u32, change: Option<Change>)
 }
 
 // Applies what becomes of each item, in ascending key order. What the store refuses is passed over.
+#[tactic(auto, using(crate::proofs::Written::by_end))]
 pub fn apply_changes<S: Store>(catalogue: &Catalogue, changes: &ItemChanges, store: &mut S)
     ensures { ⟦<S as StoreMeaning>⟧.store store.new ≡ written (entries_of catalogue.now) (changes_by (entries_of catalogue.now) changes.now.slots) (⟦<S as StoreMeaning>⟧.store store.old) }
 {

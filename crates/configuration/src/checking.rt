@@ -13,6 +13,7 @@ use reference::PartsFault;
 use rule::Rule;
 
 // The check behind that of the catalogue. A place which is not there gives the defaults.
+#[tactic(auto, using(crate::proofs::Rows::defaults_configured))]
 fn check_behind<B: Store, F: Store, R: Rule>(
     catalogue: &Catalogue,
     bbr: &B,
@@ -39,6 +40,7 @@ fn check_behind<B: Store, F: Store, R: Rule>(
 // The check of the parts: the first fault, in the order of the refusals' numbers.
 // kept: each part is given where it stands; as one `Parts` they would have to be moved together first and taken apart again, and of references a
 // struct would be made for each call
+#[tactic(auto, using(crate::proofs::Refused::accepted), unfolding(reference::specs::Parts::parts_fault))]
 pub fn check<B: Store, F: Store, R: Rule>(
     entries: &[Entry],
     bbr: &B,

@@ -7,6 +7,7 @@ use catalogue::{Entry, find_item};
 use layer::Layer;
 
 // Whether an item has the key.
+#[tactic(auto, using(crate::proofs::Strays::known_where))]
 pub fn is_known(entries: &[Entry], key: u32) -> bool
     ensures { result ≡ is_known entries.now key }
 {
