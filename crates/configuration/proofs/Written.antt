@@ -1,5 +1,5 @@
 -- Changes applied entry by entry: since keys ascend, the change under an entry's key is the slot at its place.
-use Rattle.std.proofs.Common.{◌≡◌, ℕ, ◌<◌, ◌≤◌, List, [], ◌∷◌, length, drop, sym, refl, ap, ◌∙◌, arith}
+use Rattle.std.proofs.Common.{◌≡◌, ℕ, ◌<◌, ◌≤◌, List, [], ◌∷◌, length, drop, Option, sym, refl, ap, ◌∙◌, arith}
 use Rattle.std.proofs.lemmas.Bool.Decides.{nat_tests}
 use Rattle.std.proofs.lemmas.List.{drop_all}
 use Rattle.catalogue.specs.declared.entries.Entry.{Entry}
@@ -11,7 +11,7 @@ use Rattle.request.specs.declared.change.Change.{Change}
 use Rattle.request.specs.Changes.{change_of, changes_by}
 
 -- each entry's slot, in their order
-abbrev pub written_by : List Entry → List Change → Store → Store
+abbrev pub written_by : List Entry → List (Option Change) → Store → Store
 written_by [] cs s = s
 written_by (e ∷ es) [] s = s
 written_by (e ∷ es) (c ∷ cs) s = written_by es cs (written_one (change_of c) e.key s)
@@ -25,13 +25,13 @@ written_agree n (e ∷ es) d c s l same =
     written_agree e.key es d c (written_one (d e.key) e.key s) l.3 (λ k h. same k (omega arith))
     ∙ ap (λ o. written es c (written_one o e.key s)) (same e.key lt)
 
-there : (e : Entry) (es : List Entry) (c : Change) (cs : List Change) (k : ℕ) → e.key < k → changes_by (e ∷ es) (c ∷ cs) k ≡ changes_by es cs k
+there : (e : Entry) (es : List Entry) (c : Option Change) (cs : List (Option Change)) (k : ℕ) → e.key < k → changes_by (e ∷ es) (c ∷ cs) k ≡ changes_by es cs k
 there e es c cs k lt = grind (arith, nat_tests)
 
-here : (e : Entry) (es : List Entry) (c : Change) (cs : List Change) → changes_by (e ∷ es) (c ∷ cs) e.key ≡ change_of c
+here : (e : Entry) (es : List Entry) (c : Option Change) (cs : List (Option Change)) → changes_by (e ∷ es) (c ∷ cs) e.key ≡ change_of c
 here e es c cs = grind (arith, nat_tests)
 
-written_by_lem : (n : ℕ) (es : List Entry) (cs : List Change) (s : Store) → Listed n es → length es ≤ length cs → written es (changes_by es cs) s ≡ written_by es cs s
+written_by_lem : (n : ℕ) (es : List Entry) (cs : List (Option Change)) (s : Store) → Listed n es → length es ≤ length cs → written es (changes_by es cs) s ≡ written_by es cs s
 unfolding written Listed
 written_by_lem n [] cs s l le = refl
 written_by_lem n (e ∷ es) [] s l le = absurd (omega arith)
@@ -42,7 +42,7 @@ written_by_lem n (e ∷ es) (c ∷ cs) s l le =
     ∙ written_by_lem e.key es cs (written_one (change_of c) e.key s) l.3 (omega arith)
 
 -- the last entry is passed
-pub by_end : (es : List Entry) (cs : List Change) (i : ℕ) (s b : Store) → length es ≤ 128 → length cs ≡ 128 → Listed 0 es → length es ≤ i
+pub by_end : (es : List Entry) (cs : List (Option Change)) (i : ℕ) (s b : Store) → length es ≤ 128 → length cs ≡ 128 → Listed 0 es → length es ≤ i
     → written_by (drop i es) (drop i cs) s ≡ written_by es cs b → s ≡ written es (changes_by es cs) b
 by_end es cs i s b le whole l done inv =
     sym (ap (λ (m : List Entry). written_by m (drop i cs) s) (drop_all i es done)) ∙ inv ∙ sym (written_by_lem 0 es cs b l (omega arith))

@@ -11,18 +11,19 @@ use layer::{Layer, Store};
 use reference::Battery;
 use request::{Change, ItemChanges};
 
-// One item's change.
-fn apply_one<S: Store>(store: &mut S, key: u32, change: Change)
+// One item's change, if it has one.
+fn apply_one<S: Store>(store: &mut S, key: u32, change: Option<Change>)
     ensures { ⟦<S as StoreMeaning>⟧.store store.new ≡ written_one (change_of change) key (⟦<S as StoreMeaning>⟧.store store.old) }
 {
     match change {
-        Change::Keep => {}
-        Change::Put(value) => put_value(store, key, value),
-        Change::Remove => remove_value(store, key),
+        None => {}
+        Some(Change::Put(value)) => put_value(store, key, value),
+        Some(Change::Remove) => remove_value(store, key),
     }
 }
 
 // Applies what becomes of each item, in ascending key order. What the store refuses is passed over.
+#[tactic(auto, using(crate::proofs::Written::by_end))]
 pub fn apply_changes<S: Store>(catalogue: &Catalogue, changes: &ItemChanges, store: &mut S)
     ensures { ⟦<S as StoreMeaning>⟧.store store.new ≡ written (entries_of catalogue.now) (changes_by (entries_of catalogue.now) changes.now.slots) (⟦<S as StoreMeaning>⟧.store store.old) }
 {

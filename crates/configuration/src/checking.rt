@@ -13,6 +13,7 @@ use reference::PartsFault;
 use rule::Rule;
 
 // The check behind that of the catalogue. A place which is not there gives the defaults.
+#[tactic(auto, using(crate::proofs::Rows::defaults_configured))]
 fn check_behind<B: Store, F: Store, R: Rule>(
     catalogue: &Catalogue,
     bbr: &B,
@@ -30,14 +31,16 @@ fn check_behind<B: Store, F: Store, R: Rule>(
     if let Some(key) = stray_key(catalogue.entries(), flash) {
         return Err(PartsFault::StrayInFlash(key));
     }
-    match fault_in(catalogue, &Absent, rule) {
-        Some(item) => Err(PartsFault::DefaultsUnfit(item)),
-        None => Ok(()),
+    if let Some(item) = fault_in(catalogue, &Absent, rule) {
+        return Err(PartsFault::DefaultsUnfit(item));
     }
+    Ok(())
 }
 
 // The check of the parts: the first fault, in the order of the refusals' numbers.
-// kept: the parts are lent, since they may be checked before they are given away; a struct of references would be made for each check
+// kept: each part is given where it stands; as one `Parts` they would have to be moved together first and taken apart again, and of references a
+// struct would be made for each call
+#[tactic(auto, using(crate::proofs::Refused::accepted), unfolding(reference::specs::Parts::parts_fault))]
 pub fn check<B: Store, F: Store, R: Rule>(
     entries: &[Entry],
     bbr: &B,

@@ -19,6 +19,7 @@ fn gather_one<L: Layer>(layer: &L, key: u32, table: &mut SlotTable)
 }
 
 // A table with what the layer holds under the catalogue's keys. They ascend, and there is room for 128: so no put is refused.
+#[tactic(auto, using(crate::proofs::Tables::gathered_all))]
 pub fn gathered<L: Layer>(catalogue: &Catalogue, layer: &L) -> SlotTable
     ensures { settings_of result.slots ≡ held_under (entries_of catalogue.now) (L.Layer.settings layer.now) }
 {

@@ -21,12 +21,8 @@ fn values_in<S: Store>(catalogue: &Catalogue, store: &S) -> [u64; 128]
     ensures row { take (length (entries_of catalogue.now)) result ≡ map (item_value (⟦<S as StoreMeaning>⟧.store store.now)) (entries_of catalogue.now) }
     ensures len { length result ≡ 128 }
 {
-    let mut values = [0u64; 128];
-    // kept: values are written by number, since nothing is known of a slice after an adapter of its `iter_mut`
-    for (item, entry) in catalogue.entries().iter().enumerate() {
-        values[item] = value_in(store, entry);
-    }
-    values
+    let entries = catalogue.entries();
+    std::array::from_fn(|item| entries.get(item).map_or(0, |entry| value_in(store, entry)))
 }
 
 // The item at fault in the configuration that a store gives: none where the rule finds it fit.

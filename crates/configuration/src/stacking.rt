@@ -25,6 +25,7 @@ fn gather_pile<B: Store, F: Store>(pile: &Stack<Stack<B, F>, Defaults>) -> SlotT
     gathered(&pile.lower.catalogue, pile)
 }
 
+#[tactic(auto, using(crate::proofs::Piled::default_settings))]
 fn gather_defaults(defaults: &Defaults) -> SlotTable
     ensures { settings_of result.slots ≡ settings_by default_of (entries_of defaults.now.catalogue) }
 {
@@ -42,6 +43,7 @@ fn unless_unfit(table: SlotTable, fault: Option<usize>, defaults: &Defaults) -> 
 }
 
 // RAM as it stands after making and after a restart.
+#[tactic(auto, using(crate::proofs::Piled::fault_is, crate::proofs::Piled::stacked_is))]
 pub fn stack_ram<B: Store, F: Store, R: Rule>(
     pile: &Stack<Stack<B, F>, Defaults>,
     rule: &R,

@@ -7,6 +7,7 @@ use catalogue::{Entry, find_item};
 use layer::Layer;
 
 // Whether an item has the key.
+#[tactic(auto, using(crate::proofs::Strays::known_where))]
 pub fn is_known(entries: &[Entry], key: u32) -> bool
     ensures { result ≡ is_known entries.now key }
 {
@@ -17,6 +18,8 @@ pub fn is_known(entries: &[Entry], key: u32) -> bool
 pub fn stray_key<L: Layer>(entries: &[Entry], layer: &L) -> Option<u32>
     ensures { result ≡ stray_key entries.now (L.Layer.settings layer.now) }
 {
+    // kept: tried as `successors(layer.next_key(0), ..).find(..)`, and what `find` asks stayed open: an iterator that is known to end, which std never
+    // says of `successors`; a `take` between them would need a bound that means nothing here
     let mut number = 0;
     while let Some(key) = layer.next_key(number) {
         if !is_known(entries, key) {

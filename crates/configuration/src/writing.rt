@@ -5,18 +5,21 @@ ghost use Rattle.reference.specs.Stores.{put, removed, cleared};
 use crate::meaning::StoreMeaning;
 use layer::{Layer, Store};
 
+#[tactic(auto, using(crate::proofs::Stores::put_is))]
 pub(crate) fn put_value<S: Store>(store: &mut S, key: u32, value: u64)
     ensures { ⟦<S as StoreMeaning>⟧.store store.new ≡ put (⟦<S as StoreMeaning>⟧.store store.old) key value }
 {
     let _ = store.put(key, value);
 }
 
+#[tactic(auto, using(crate::proofs::Stores::removed_is))]
 pub(crate) fn remove_value<S: Store>(store: &mut S, key: u32)
     ensures { ⟦<S as StoreMeaning>⟧.store store.new ≡ removed (⟦<S as StoreMeaning>⟧.store store.old) key }
 {
     let _ = store.remove(key);
 }
 
+#[tactic(auto, using(crate::proofs::Stores::cleared_is))]
 pub(crate) fn clear_all<S: Store>(store: &mut S)
     ensures { ⟦<S as StoreMeaning>⟧.store store.new ≡ cleared (⟦<S as StoreMeaning>⟧.store store.old) }
 {

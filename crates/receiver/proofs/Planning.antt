@@ -16,7 +16,7 @@ use Rattle.request.specs.declared.change.Change.{Change}
 use Rattle.request.specs.declared.action.Action.{Action}
 use Rattle.request.specs.declared.action.Action.TheVariants.{Apply, Open, Add, Close}
 use Rattle.request.specs.Actions.{action_number}
-use Rattle.request.specs.Changes.{no_change, changes_by}
+use Rattle.request.specs.Changes.{changes_by}
 use Rattle.receiver.specs.declared.transaction.Transaction.{Transaction}
 use Rattle.receiver.specs.State.{opened_of}
 use Rattle.receiver.specs.Plans.{planned_with}
@@ -32,12 +32,12 @@ module _ (cat : Catalogue) (rule : Finding) (s : State) (l : Layers) (d : Change
   unfolding apply_fault
   fault_found o ram e w f = f ∙ ap (λ (r : Store). rule cat (configuration cat r)) w ∙ sym (cond-true l.ram _ _ e)
 
-none_at : (es : List Entry) (n k : ℕ) → changes_by es (replicate n no_change) k ≡ None
+none_at : (es : List Entry) (n k : ℕ) → changes_by es (replicate n None) k ≡ None
 none_at [] n k = refl
 none_at (e ∷ es) zero k = refl
 none_at (e ∷ es) (suc n) k = let h = none_at es n k in grind (arith, nat_tests)
 
-pub none_queued : (es : List Entry) (cs : List Change) (t : Option Transaction) → cs ≡ replicate 128 no_change → t ≡ None → changes_by es cs ≡ queue_of (option_map (opened_of es) t)
+pub none_queued : (es : List Entry) (cs : List (Option Change)) (t : Option Transaction) → cs ≡ replicate 128 None → t ≡ None → changes_by es cs ≡ queue_of (option_map (opened_of es) t)
 none_queued es cs t e is = ap (changes_by es) e ∙ fun_ext (λ k. none_at es 128 k) ∙ sym (ap (λ o. queue_of (option_map (opened_of es) o)) is)
 
 -- What an action does with the data that were read, and with those queued

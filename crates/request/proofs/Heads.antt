@@ -1,6 +1,5 @@
 -- The head of a payload against the reference's judging of a set or delete.
-use Rattle.std.proofs.Common.{◌≡◌, ℕ, ◌≤◌, Bool, true, false, cond, not, ◌&&◌, ◌||◌, eqb, ltb, leb, List, length, get_or, Some, None, Option, Result, sym, refl, ◌∙◌, ap₂}
-use Rattle.std.proofs.lemmas.List.{get_or_past}
+use Rattle.std.proofs.Common.{◌≡◌, Bool, true, false, cond, not, ◌&&◌, ◌||◌, eqb, ltb, leb, length, get_or, Some, None, Option, Result, refl, ◌∙◌, ap₂}
 use Rattle.frame.specs.Frames.{Message}
 use Rattle.rule.specs.Rules.{Finding}
 use Rattle.reference.specs.declared.layers.Layers.{Layers}
@@ -9,9 +8,6 @@ use Rattle.reference.specs.declared.refusal.Refusal.TheVariants.{UnknownVersion,
 use Rattle.reference.specs.Requests.{Catalogue, layers_of, action_of}
 use Rattle.reference.specs.Receiver.{State, Transaction, unless, is_none, other_layers, planned, judged_change}
 use Rattle.request.specs.Head.{opened_layers, opened_for_others, head_refusal, after_head}
-
-pub byte_past : (p : List ℕ) (i : ℕ) → length p ≤ i → 0 ≡ get_or p i 0
-byte_past p i le = sym (get_or_past p i 0 le)
 
 -- six checks in a row
 checks : {A : Type 0} (a b c d e f : Bool) (r : Result A Refusal)

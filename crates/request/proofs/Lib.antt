@@ -2,6 +2,7 @@ pub mod Faults
 pub mod Heads
 pub mod Joined
 pub mod Keys
+pub mod Made
 pub mod Pairs
 pub mod Removals
 pub mod Settled

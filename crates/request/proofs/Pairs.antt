@@ -88,10 +88,10 @@ cut_pair : (es : List Entry) (bs : List ℕ) → None ≡ pair_in bs → pair_re
 unfolding pair_read
 cut_pair es bs e = ap (λ b. cond b cut (read_pair es (pair_of bs))) (none_pair (is_cut bs) (pair_of bs) e)
 
-pub pair_cut : (es : List Entry) (bs : List ℕ) (before after : List Change) → None ≡ pair_in bs → Taken es (pair_read es bs) (length bs) before after (Err Cut)
+pub pair_cut : (es : List Entry) (bs : List ℕ) (before after : List (Option Change)) → None ≡ pair_in bs → Taken es (pair_read es bs) (length bs) before after (Err Cut)
 pair_cut es bs before after e = record { value = sym (ap (read_map (over es before)) (cut_pair es bs e)); within = tt }
 
-pub pair_unknown : (es : List Entry) (bs : List ℕ) (before after : List Change) (p : Pair) → Some p ≡ pair_in bs → FirstWith p.key es None
+pub pair_unknown : (es : List Entry) (bs : List ℕ) (before after : List (Option Change)) (p : Pair) → Some p ≡ pair_in bs → FirstWith p.key es None
     → Taken es (pair_read es bs) (length bs) before after (Err Unknown)
 pair_unknown es bs before after p e none = record {
   value = sym (ap (read_map (over es before))
@@ -99,14 +99,14 @@ pair_unknown es bs before after p e none = record {
   within = tt;
 }
 
-pub pair_taken : (es : List Entry) (bs : List ℕ) (before after : List Change) (p : Pair) (i : ℕ) → Some p ≡ pair_in bs → FirstWith p.key es (Some i)
-    → Listed 0 es → length es ≤ 128 → length before ≡ 128 → after ≡ set before i (Put p.value) → Taken es (pair_read es bs) (length bs) before after (Ok p.len)
+pub pair_taken : (es : List Entry) (bs : List ℕ) (before after : List (Option Change)) (p : Pair) (i : ℕ) → Some p ≡ pair_in bs → FirstWith p.key es (Some i)
+    → Listed 0 es → length es ≤ 128 → length before ≡ 128 → after ≡ set before i (Some (Put p.value)) → Taken es (pair_read es bs) (length bs) before after (Ok p.len)
 pair_taken es bs before after p i e first listed few whole is =
     let datum : Data = record { key = p.key; value = Some p.value } ∷ [] in
     let known = known_at es i p.key first.0 first.1 in
     record {
-      value = ap (λ (cs : List Change). read p.len (changes_by es cs)) is
-          ∙ ap (read p.len) (over_one es before i (Put p.value) p.key (Some p.value) listed few whole first.0 first.1 refl)
+      value = ap (λ (cs : List (Option Change)). read p.len (changes_by es cs)) is
+          ∙ ap (read p.len) (over_one es before i (Some (Put p.value)) p.key (Some p.value) listed few whole first.0 first.1 refl)
           ∙ sym (ap (read_map (over es before)) (whole_pair es bs p e ∙ ap (λ b. cond b (read p.len datum) unknown) known));
       within = pair_room bs p e;
     }

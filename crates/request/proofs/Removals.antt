@@ -1,5 +1,5 @@
 -- The items that a key or selector names, removed one after the other.
-use Rattle.std.proofs.Common.{◌≡◌, ℕ, ◌+◌, ◌<◌, ◌≤◌, Bool, true, false, cond, List, [], ◌∷◌, map, length, get_or, take, drop, set, Some, None, Ok, Err, Result, sym, refl, ap, ◌∙◌, arith}
+use Rattle.std.proofs.Common.{◌≡◌, ℕ, ◌+◌, ◌<◌, ◌≤◌, Bool, true, false, cond, List, [], ◌∷◌, map, length, get_or, take, drop, set, Some, None, Ok, Err, Option, Result, sym, refl, ap, ◌∙◌, arith}
 use Rattle.std.proofs.lemmas.List.{drop_more, drop_all}
 use Rattle.std.proofs.lemmas.Bool.{lt-ltb, le-ltb}
 use Rattle.std.proofs.lemmas.Bool.Decides.{nat_tests}
@@ -23,13 +23,10 @@ abbrev pub removals : Selector → ℕ → List Entry → Data
 removals s i es = map deleted (keys_named s (drop i es))
 
 -- The loop: what is left to remove gives what is asked for, and whether an item was named yet.
-pub record Removing (es : List Entry) (s : Selector) (before slots : List Change) (i : ℕ) (named : Bool) : Type 0 where
+pub record Removing (es : List Entry) (s : Selector) (before slots : List (Option Change)) (i : ℕ) (named : Bool) : Type 0 where
   pub left : over es slots (removals s i es) ≡ over es before (map deleted (keys_named s es))
   pub some : named ≡ true → 0 < length (keys_named s es)
   pub none : named ≡ false → keys_named s (drop i es) ≡ keys_named s es
-
-pub removing_start : (es : List Entry) (s : Selector) (before : List Change) → Removing es s before before 0 false
-removing_start es s before = record { left = refl; some = λ e. absurd (cc); none = λ e. refl }
 
 abbrev key_at : List Entry → ℕ → ℕ
 key_at es i = (get_or es i blank).key
@@ -49,17 +46,17 @@ keys_past : (s : Selector) (es : List Entry) (i : ℕ) → i < length es → fal
 keys_past s es i lt e =
     keys_left s es i lt ∙ ap (λ b. cond b (key_at es i ∷ keys_named s (drop (i + 1) es)) (keys_named s (drop (i + 1) es))) (sym e)
 
-some_more : (es : List Entry) (s : Selector) (before slots : List Change) (i k : ℕ) (ks : List ℕ) (named : Bool) → Removing es s before slots i named
+some_more : (es : List Entry) (s : Selector) (before slots : List (Option Change)) (i k : ℕ) (ks : List ℕ) (named : Bool) → Removing es s before slots i named
     → keys_named s (drop i es) ≡ k ∷ ks → 0 < length (keys_named s es)
 some_more es s before slots i k ks true inv e = inv.some refl
 some_more es s before slots i k ks false inv e = let len = ap length (sym (inv.none refl) ∙ e) in omega arith
 
-pub removing_named : (es : List Entry) (s : Selector) (before slots after : List Change) (i : ℕ) (named : Bool) → Removing es s before slots i named
-    → Listed 0 es → length es ≤ 128 → length slots ≡ 128 → i < length es → true ≡ names s (key_at es i) → after ≡ set slots i Remove
+pub removing_named : (es : List Entry) (s : Selector) (before slots after : List (Option Change)) (i : ℕ) (named : Bool) → Removing es s before slots i named
+    → Listed 0 es → length es ≤ 128 → length slots ≡ 128 → i < length es → true ≡ names s (key_at es i) → after ≡ set slots i (Some Remove)
     → Removing es s before after (i + 1) true
 removing_named es s before slots after i named inv listed few whole lt e is = record {
-  left = ap (λ (cs : List Change). over es cs (removals s (i + 1) es)) is
-      ∙ ap (λ (c : Changes). and_later c (latest (removals s (i + 1) es))) (over_one es slots i Remove (key_at es i) None listed few whole lt refl refl)
+  left = ap (λ (cs : List (Option Change)). over es cs (removals s (i + 1) es)) is
+      ∙ ap (λ (c : Changes). and_later c (latest (removals s (i + 1) es))) (over_one es slots i (Some Remove) (key_at es i) None listed few whole lt refl refl)
       ∙ sym (over_append (changes_by es slots) (deleted (key_at es i) ∷ []) (removals s (i + 1) es))
       ∙ ap (λ (ks : List ℕ). over es slots (map deleted ks)) (sym (keys_here s es i lt e))
       ∙ inv.left;
@@ -67,7 +64,7 @@ removing_named es s before slots after i named inv listed few whole lt e is = re
   none = λ f. absurd (cc);
 }
 
-pub removing_past : (es : List Entry) (s : Selector) (before slots : List Change) (i : ℕ) (named : Bool) → Removing es s before slots i named
+pub removing_past : (es : List Entry) (s : Selector) (before slots : List (Option Change)) (i : ℕ) (named : Bool) → Removing es s before slots i named
     → i < length es → false ≡ names s (key_at es i) → Removing es s before slots (i + 1) named
 removing_past es s before slots i named inv lt e = record {
   left = ap (λ (ks : List ℕ). over es slots (map deleted ks)) (sym (keys_past s es i lt e)) ∙ inv.left;
@@ -77,7 +74,7 @@ removing_past es s before slots i named inv lt e = record {
 
 -- the end: nothing is left to remove
 
-some_named : (es : List Entry) (before : List Change) (ks : List ℕ) → 0 < length ks → read_map (over es before) (read_map (map deleted) (named_read ks)) ≡ read 4 (over es before (map deleted ks))
+some_named : (es : List Entry) (before : List (Option Change)) (ks : List ℕ) → 0 < length ks → read_map (over es before) (read_map (map deleted) (named_read ks)) ≡ read 4 (over es before (map deleted ks))
 some_named es before [] lt = absurd (omega arith)
 some_named es before (k ∷ ks) lt = refl
 
@@ -85,7 +82,7 @@ none_left : (s : Selector) (es : List Entry) (i : ℕ) → length es ≤ i → k
 unfolding keys_named
 none_left s es i le = ap (keys_named s) (drop_all i es le)
 
-pub removing_end : (es : List Entry) (s : Selector) (before slots : List Change) (i : ℕ) (named : Bool) → Removing es s before slots i named → length es ≤ i
+pub removing_end : (es : List Entry) (s : Selector) (before slots : List (Option Change)) (i : ℕ) (named : Bool) → Removing es s before slots i named → length es ≤ i
     → named ≡ true → Taken es (read_map (map deleted) (named_read (keys_named s es))) 4 before slots (Ok 4)
 removing_end es s before slots i named inv le e = record {
   value = sym (some_named es before (keys_named s es) (inv.some e)
@@ -93,7 +90,7 @@ removing_end es s before slots i named inv le e = record {
   within = (omega arith, omega arith);
 }
 
-pub removing_none : (es : List Entry) (s : Selector) (before slots : List Change) (i : ℕ) (named : Bool) → Removing es s before slots i named → length es ≤ i
+pub removing_none : (es : List Entry) (s : Selector) (before slots : List (Option Change)) (i : ℕ) (named : Bool) → Removing es s before slots i named → length es ≤ i
     → named ≡ false → Taken es (read_map (map deleted) (named_read (keys_named s es))) 4 before slots (Err Unknown)
 removing_none es s before slots i named inv le e =
     let empty : keys_named s es ≡ [] = sym (inv.none e) ∙ none_left s es i le in
@@ -101,7 +98,7 @@ removing_none es s before slots i named inv le e =
 
 -- The key or selector in front
 
-pub removal_cut : (es : List Entry) (bs : List ℕ) (before after : List Change) → None ≡ key_in bs → Taken es (deletion_read es bs) (length bs) before after (Err Cut)
+pub removal_cut : (es : List Entry) (bs : List ℕ) (before after : List (Option Change)) → None ≡ key_in bs → Taken es (deletion_read es bs) (length bs) before after (Err Cut)
 unfolding key_read
 removal_cut es bs before after e =
     let short : length bs < 4 = grind (arith, nat_tests) in
@@ -114,7 +111,7 @@ within_more : (n m : ℕ) (r : Result ℕ EntryFault) → n ≤ m → Within n r
 within_more n m (Ok k) le w = (w.0, (let h = w.1 in omega arith))
 within_more n m (Err f) le w = tt
 
-pub removal_taken : (es : List Entry) (bs : List ℕ) (before after : List Change) (k : ℕ) (r : Result ℕ EntryFault) → Some k ≡ key_in bs
+pub removal_taken : (es : List Entry) (bs : List ℕ) (before after : List (Option Change)) (k : ℕ) (r : Result ℕ EntryFault) → Some k ≡ key_in bs
     → Taken es (read_map (map deleted) (named_read (keys_named (selector_of k) es))) 4 before after r → Taken es (deletion_read es bs) (length bs) before after r
 unfolding key_read
 removal_taken es bs before after k r e t =

@@ -7,7 +7,7 @@ use Rattle.catalogue.specs.declared.entries.Entry.{Entry}
 use Rattle.catalogue.specs.Catalogues.{Listed, blank}
 use Rattle.reference.specs.Requests.{Data, Changes, latest, and_later}
 use Rattle.request.specs.declared.change.Change.{Change}
-use Rattle.request.specs.Changes.{no_change, change_of, changes_by}
+use Rattle.request.specs.Changes.{change_of, changes_by}
 use Rattle.request.specs.Reading.{over}
 
 or_none_lem : {A : Type 0} (x : Option A) → option_or x None ≡ x
@@ -43,7 +43,7 @@ key_above_lem n [] i l lt = absurd (omega arith)
 key_above_lem n (e ∷ es) zero l lt = l.0
 key_above_lem n (e ∷ es) (suc i) l lt = let a = key_above_lem e.key es i l.3 (omega arith) in omega (arith, l.0)
 
-set_at : (n : ℕ) (es : List Entry) (cs : List Change) (i : ℕ) (c : Change) (k : ℕ) → Listed n es → i < length es → length es ≤ length cs
+set_at : (n : ℕ) (es : List Entry) (cs : List (Option Change)) (i : ℕ) (c : Option Change) (k : ℕ) → Listed n es → i < length es → length es ≤ length cs
     → changes_by es (set cs i c) k ≡ cond (eqb (get_or es i blank).key k) (change_of c) (changes_by es cs k)
 unfolding Listed
 set_at n [] cs i c k l lt le = absurd (omega arith)
@@ -60,7 +60,7 @@ unfolding latest
 one_latest k v j before = grind (arith, nat_tests)
 
 -- a change in the slot of an item is one datum more
-pub over_one : (es : List Entry) (cs : List Change) (i : ℕ) (c : Change) (k : ℕ) (v : Option ℕ) → Listed 0 es → length es ≤ 128 → length cs ≡ 128 → i < length es
+pub over_one : (es : List Entry) (cs : List (Option Change)) (i : ℕ) (c : Option Change) (k : ℕ) (v : Option ℕ) → Listed 0 es → length es ≤ 128 → length cs ≡ 128 → i < length es
     → (get_or es i blank).key ≡ k → change_of c ≡ Some v → changes_by es (set cs i c) ≡ over es cs (record { key = k; value = v } ∷ [])
 over_one es cs i c k v l few whole lt e is =
     fun_ext (λ j.
@@ -70,11 +70,11 @@ over_one es cs i c k v l few whole lt e is =
 
 -- at first no item changes
 
-none_at : (es : List Entry) (n k : ℕ) → changes_by es (replicate n no_change) k ≡ None
+none_at : (es : List Entry) (n k : ℕ) → changes_by es (replicate n None) k ≡ None
 none_at [] n k = refl
 none_at (e ∷ es) zero k = refl
 none_at (e ∷ es) (suc n) k = let h = none_at es n k in grind (arith, nat_tests)
 
-pub over_none : (es : List Entry) (n : ℕ) → over es (replicate n no_change) ≡ latest
+pub over_none : (es : List Entry) (n : ℕ) → over es (replicate n None) ≡ latest
 over_none es n =
     fun_ext (λ d. fun_ext (λ k. ap (λ (x : Option (Option ℕ)). option_or (latest d k) x) (none_at es n k) ∙ or_none_lem (latest d k)))

@@ -1,5 +1,5 @@
 -- The walk over the data, entry by entry.
-use Rattle.std.proofs.Common.{◌≡◌, ℕ, zero, suc, ◌+◌, ◌-◌, ◌<◌, ◌≤◌, Bool, true, false, cond, eqb, List, [], ◌∷◌, ◌++◌, length, take, drop, replicate, Ok, Err, Result, sym, refl, ap, ◌∙◌, ap₂, arith}
+use Rattle.std.proofs.Common.{◌≡◌, ℕ, zero, suc, ◌+◌, ◌-◌, ◌<◌, ◌≤◌, Bool, true, false, cond, eqb, List, [], ◌∷◌, ◌++◌, length, take, drop, replicate, None, Ok, Err, Option, Result, sym, refl, ap, ◌∙◌, ap₂, arith}
 use Rattle.std.proofs.lemmas.List.{drop_more, drop_all, drop-drop, take_rest, length-drop}
 use Rattle.catalogue.specs.declared.entries.Entry.{Entry}
 use Rattle.reference.specs.declared.refusal.Refusal.{Refusal}
@@ -8,7 +8,7 @@ use Rattle.reference.specs.Requests.{valset, Data, Changes, latest, and_later, R
 use Rattle.request.specs.declared.change.Change.{Change}
 use Rattle.request.specs.declared.data.EntryFault.{EntryFault}
 use Rattle.request.specs.declared.data.EntryFault.TheVariants.{Cut, Unknown}
-use Rattle.request.specs.Changes.{no_change, changes_by}
+use Rattle.request.specs.Changes.{changes_by}
 use Rattle.request.specs.Reading.{entry_read, over, fault_at, taken_as, Taken}
 use Rattle.request.proofs.Settled.{over_append, over_none, over_nil}
 
@@ -44,7 +44,7 @@ walking_on unknown c d n place on e = absurd (let z = ap kind_of e in omega arit
 walking_on (read m a) c d n place on e =
     more_data c a (on m) ∙ sym (ap₂ (λ (k : ℕ) (b : Changes). ok_map (behind b) (on k)) (ap width_in e) (ap (changes_in d) e))
 
-walking_fault : (x : Read Data) (es : List Entry) (c : Changes) (slots : List Change) (place : ℕ) (f : EntryFault) (on : ℕ → Result Data Refusal)
+walking_fault : (x : Read Data) (es : List Entry) (c : Changes) (slots : List (Option Change)) (place : ℕ) (f : EntryFault) (on : ℕ → Result Data Refusal)
     → taken_as es slots (Err f) ≡ read_map (behind c) x → ok_map (behind c) (walking x place on) ≡ Err (fault_at place f)
 unfolding walking
 walking_fault cut es c slots place Cut on e = refl
@@ -65,7 +65,7 @@ walk_step one (suc left) place (b ∷ bs) lt pos =
 
 -- The loop: what is left of a payload, over the changes of the slots
 
-abbrev pub left_over : List Entry → ℕ → List Change → ℕ → ℕ → List ℕ → Result Changes Refusal
+abbrev pub left_over : List Entry → ℕ → List (Option Change) → ℕ → ℕ → List ℕ → Result Changes Refusal
 left_over es id slots left place p = ok_map (over es slots) (walk (entry_read es id) left place (drop place p))
 
 walk_nil : (one : List ℕ → Read Data) (left place : ℕ) → walk one left place [] ≡ Ok []
@@ -73,14 +73,14 @@ unfolding walk
 walk_nil one zero place = refl
 walk_nil one (suc left) place = refl
 
-module _ (es : List Entry) (id : ℕ) (slots : List Change) (left place : ℕ) (p : List ℕ) (all : Result Changes Refusal) (inv : left_over es id slots left place p ≡ all) where
+module _ (es : List Entry) (id : ℕ) (slots : List (Option Change)) (left place : ℕ) (p : List ℕ) (all : Result Changes Refusal) (inv : left_over es id slots left place p ≡ all) where
   step : place < length p → (left ≡ 0 → ⊥)
       → ok_map (over es slots) (walking (entry_read es id (drop place p)) place (λ n. walk (entry_read es id) (left - 1) (place + n) (drop n (drop place p)))) ≡ all
   step lt pos =
       let len = length-drop place p in
       ap (ok_map (over es slots)) (sym (walk_step (entry_read es id) left place (drop place p) (omega arith) pos)) ∙ inv
 
-  pub data_more : (room n : ℕ) (after : List Change) → place < length p → (left ≡ 0 → ⊥)
+  pub data_more : (room n : ℕ) (after : List (Option Change)) → place < length p → (left ≡ 0 → ⊥)
       → Taken es (entry_read es id (take (length p - place) (drop place p))) room slots after (Ok n) → left_over es id after (left - 1) (place + n) p ≡ all
   data_more room n after lt pos t =
       ap (λ (bs : List ℕ). ok_map (over es after) (walk (entry_read es id) (left - 1) (place + n) bs)) (sym (drop-drop n place p))
@@ -89,7 +89,7 @@ module _ (es : List Entry) (id : ℕ) (slots : List Change) (left place : ℕ) (
       (t.value ∙ ap (λ (bs : List ℕ). read_map (over es slots) (entry_read es id bs)) (take_rest p place)))
       ∙ step lt pos
 
-  pub data_fault : (room : ℕ) (f : EntryFault) (refusal : Refusal) (after : List Change) → place < length p → (left ≡ 0 → ⊥)
+  pub data_fault : (room : ℕ) (f : EntryFault) (refusal : Refusal) (after : List (Option Change)) → place < length p → (left ≡ 0 → ⊥)
       → Taken es (entry_read es id (take (length p - place) (drop place p))) room slots after (Err f) → refusal ≡ fault_at place f → Err refusal ≡ all
   data_fault room f refusal after lt pos t e =
       ap Err e
@@ -115,7 +115,7 @@ either_walk : (b : Bool) (one other : List ℕ → Read Data) (left place : ℕ)
 either_walk true one other left place bs = refl
 either_walk false one other left place bs = refl
 
-pub data_start : (es : List Entry) (id : ℕ) (slots : List Change) (p : List ℕ) → slots ≡ replicate 128 no_change → left_over es id slots 64 4 p ≡ ok_map latest (data_of es id p)
+pub data_start : (es : List Entry) (id : ℕ) (slots : List (Option Change)) (p : List ℕ) → slots ≡ replicate 128 None → left_over es id slots 64 4 p ≡ ok_map latest (data_of es id p)
 unfolding data_of
 data_start es id slots p e =
     ap₂ (λ (f : Data → Changes) (r : Result Data Refusal). ok_map f r) (ap (over es) e ∙ over_none es 128)

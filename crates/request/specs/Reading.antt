@@ -34,11 +34,11 @@ fault_at place Cut = CutEntry place
 fault_at place Unknown = UnknownKey place
 
 -- what data change over what slots change already
-abbrev pub over : List Entry → List Change → Data → Changes
+abbrev pub over : List Entry → List (Option Change) → Data → Changes
 over es slots d = and_later (changes_by es slots) (latest d)
 
 -- the answer, and the changes where the entry was taken
-abbrev pub taken_as : List Entry → List Change → Result ℕ EntryFault → Read Changes
+abbrev pub taken_as : List Entry → List (Option Change) → Result ℕ EntryFault → Read Changes
 taken_as es slots (Ok n) = read n (changes_by es slots)
 taken_as es slots (Err Cut) = cut
 taken_as es slots (Err Unknown) = unknown
@@ -48,6 +48,6 @@ Within room (Ok n) = (4 ≤ n) × (n ≤ room)
 Within room (Err f) = Unit {0}
 
 -- An entry that is read so was taken over the changes before, or refused; one that was taken has 4 bytes or more, and not more than there are.
-pub record Taken (es : List Entry) (entry : Read Data) (room : ℕ) (before after : List Change) (r : Result ℕ EntryFault) : Type 0 where
+pub record Taken (es : List Entry) (entry : Read Data) (room : ℕ) (before after : List (Option Change)) (r : Result ℕ EntryFault) : Type 0 where
   pub value : taken_as es after r ≡ read_map (over es before) entry
   pub within : Within room r

@@ -1,5 +1,5 @@
-// What becomes of each item: a slot for each item of a catalogue, at its place. Whatever number of frames join a transaction, this is all that is
-// kept of them.
+// What becomes of each item: a slot for each item of a catalogue, at its place; an item that stays as it is has none in its slot. Whatever number of
+// frames join a transaction, this is all that is kept of them.
 ghost use Rattle.std.specs.Prelude.{◌≡◌, length};
 
 use crate::change::Change;
@@ -9,6 +9,6 @@ pub mod calls;
 #[derive(Clone, Copy)]
 pub struct ItemChanges {
     // kept: fixed memory, since a receiver has no heap once it is made
-    slots: [Change; 128],
+    slots: [Option<Change>; 128],
     ghost whole: { length slots ≡ 128 },
 }

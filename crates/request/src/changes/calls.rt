@@ -2,44 +2,32 @@
 ghost use Rattle.std.specs.Prelude.{◌≡◌, List, replicate, slice_index_or, slice_set};
 ghost use Rattle.catalogue.specs.declared.entries.Entry.{Entry};
 ghost use Rattle.reference.specs.Requests.{and_later};
-ghost use Rattle.request.specs.Changes.{changes_by, later_of, no_change};
+ghost use Rattle.request.specs.Changes.{changes_by};
 
 use super::ItemChanges;
 use crate::change::Change;
 
-// The later change where there is one, else the earlier.
-fn later_of(earlier: Change, later: Change) -> Change
-    ensures { result ≡ later_of earlier later }
-{
-    match later {
-        Change::Keep => earlier,
-        _ => later,
-    }
-}
-
 impl ItemChanges {
     // No item changes.
     pub fn none() -> ItemChanges
-        ensures { result.slots ≡ replicate 128 no_change }
+        ensures { result.slots ≡ replicate 128 None }
     {
-        ItemChanges {
-            slots: [Change::Keep; 128],
-        }
+        ItemChanges { slots: [None; 128] }
     }
 
     // What becomes of an item; nothing of one beyond the 128th.
-    pub fn at(&self, item: usize) -> Change
-        ensures { result ≡ slice_index_or self.now.slots item no_change }
+    pub fn at(&self, item: usize) -> Option<Change>
+        ensures { result ≡ slice_index_or self.now.slots item None }
     {
-        self.slots.get(item).copied().unwrap_or(Change::Keep)
+        self.slots.get(item).copied().flatten()
     }
 
     // One item changes so; an item beyond the 128th is passed over.
     pub fn set(&mut self, item: usize, change: Change)
-        ensures { self.new.slots ≡ slice_set self.old.slots item change }
+        ensures { self.new.slots ≡ slice_set self.old.slots item (Some change) }
     {
         if item < 128 {
-            self.slots[item] = change;
+            self.slots[item] = Some(change);
         }
     }
 
@@ -47,10 +35,8 @@ impl ItemChanges {
     pub fn and_later(&self, later: &ItemChanges) -> ItemChanges
         ensures { (es : List Entry) → changes_by es result.slots ≡ and_later (changes_by es self.now.slots) (changes_by es later.now.slots) }
     {
-        let mut slots = self.slots;
-        for (item, change) in later.slots.iter().enumerate() {
-            slots[item] = later_of(slots[item], *change);
+        ItemChanges {
+            slots: std::array::from_fn(|item| later.at(item).or(self.at(item))),
         }
-        ItemChanges { slots }
     }
 }
