@@ -13,12 +13,12 @@ ghost use Rattle.receiver.specs.Plans.{after_plan, after_grant, after_verdict, g
 use super::Receiver;
 use super::meaning::Meaning;
 use crate::first::HeldFrame;
-use crate::transaction::{Granted, Plan};
-use crate::verdict::{ACK, NAK, write_verdict};
+use crate::transaction::{Granted, LayerChange, Plan};
+use crate::verdict::{Sign, write_verdict};
 use catalogue::Catalogue;
 use configuration::apply_changes;
 use layer::Store;
-use reference::{Layers, Refusal, Telling, Verdict};
+use reference::{Refusal, Telling, Verdict};
 use request::ItemChanges;
 use rule::Rule;
 
@@ -33,21 +33,17 @@ fn apply_if<S: Store>(chosen: bool, catalogue: &Catalogue, changes: &ItemChanges
 
 impl<B: Store, F: Store, R: Rule> Receiver<B, F, R> {
     // Changes the chosen layers, RAM first, then BBR, then Flash, and ends the transaction.
-    fn apply(&mut self, layers: Layers, changes: &ItemChanges)
-        ensures after { ⟦<Self as Meaning>⟧.state self.new ≡ applied (items_of self.old) (⟦<Self as Meaning>⟧.state self.old) layers (changes_by (items_of self.old) changes.now.slots) }
+    fn apply(&mut self, change: &LayerChange)
+        ensures after { ⟦<Self as Meaning>⟧.state self.new ≡ applied (items_of self.old) (⟦<Self as Meaning>⟧.state self.old) change.now.layers (changes_by (items_of self.old) change.now.items.slots) }
         ensures kept { Kept self.old self.new }
     {
+        let LayerChange { layers, items } = change;
         let catalogue = &self.layers.lower.catalogue;
-        apply_if(layers.ram, catalogue, changes, &mut self.ram);
+        apply_if(layers.ram, catalogue, items, &mut self.ram);
         let catalogue = &self.layers.lower.catalogue;
-        apply_if(layers.bbr, catalogue, changes, &mut self.layers.upper.upper);
+        apply_if(layers.bbr, catalogue, items, &mut self.layers.upper.upper);
         let catalogue = &self.layers.lower.catalogue;
-        apply_if(
-            layers.flash,
-            catalogue,
-            changes,
-            &mut self.layers.upper.lower,
-        );
+        apply_if(layers.flash, catalogue, items, &mut self.layers.upper.lower);
         self.transaction = None;
     }
 
@@ -57,7 +53,7 @@ impl<B: Store, F: Store, R: Rule> Receiver<B, F, R> {
         ensures kept { Kept self.old self.new }
     {
         match plan {
-            Plan::Apply(layers, changes) => self.apply(layers, &changes),
+            Plan::Apply(change) => self.apply(&change),
             Plan::Queue(transaction) => self.transaction = Some(transaction),
         }
     }
@@ -102,12 +98,12 @@ impl<B: Store, F: Store, R: Rule> Receiver<B, F, R> {
         match judged {
             Ok(granted) => {
                 let place = self.grant(granted);
-                let length = write_verdict(out, place, ACK, frame.id);
+                let length = place + write_verdict(&mut out[place..], Sign::Ack, frame.id);
                 frame.told(Verdict::Ack, length)
             }
             Err(refusal) => {
                 self.transaction = None;
-                let length = write_verdict(out, 0, NAK, frame.id);
+                let length = write_verdict(out, Sign::Nak, frame.id);
                 frame.told(Verdict::Nak(refusal), length)
             }
         }
