@@ -6,15 +6,16 @@ ghost use Rattle.reference.specs.Requests.{configuration_class};
 ghost use Rattle.reference.specs.Receiver.{judged};
 ghost use Rattle.receiver.specs.Plans.{Judged};
 ghost use Rattle.reference.specs.Events.{answer_into, written_by};
-ghost use Rattle.receiver.specs.First.{message_in, end_of, FirstIs, first_end};
+ghost use Rattle.receiver.specs.First.{message_in, end_of, FirstIs};
 ghost use Rattle.receiver.specs.State.{items_of, Kept, answer_event};
 ghost use Rattle.receiver.specs.Small.{RefusedLeaves, NakLeaves, AllOrNone};
 ghost use Rattle.receiver.specs.Handled.{handled_here, Handling, Answering, answering_of, length_of};
 
 use super::Receiver;
 use super::meaning::Meaning;
-use crate::first::{HeldFrame, first_in};
+use crate::first::HeldFrame;
 use crate::transaction::Granted;
+use frame::HEADER;
 use layer::Store;
 use reference::{Answered, CallFault, Refusal, Telling, Verdict};
 use request::{CONFIGURATION_CLASS, Request};
@@ -32,9 +33,10 @@ impl<B: Store, F: Store, R: Rule> Receiver<B, F, R> {
         requires fits { end_of frame ≤ length (bytes_held self.now.held) }
         ensures { Judged (items_of self.now) out.old out.new (judged (items_of self.now) (R.Rule.finding self.now.rule) (⟦<Self as Meaning>⟧.state self.now) (message_in (bytes_held self.now.held) frame)) result }
     {
+        let start = frame.noise + HEADER;
         let request = Request {
             id: frame.id,
-            payload: frame.payload(self.held.as_slice()),
+            payload: &self.held.as_slice()[start..start + frame.length],
         };
         self.judge(&request, out)
     }
@@ -43,7 +45,6 @@ impl<B: Store, F: Store, R: Rule> Receiver<B, F, R> {
     fn handle(&mut self, frame: HeldFrame, out: &mut [u8]) -> Telling
         requires room { 790 ≤ length out.old }
         requires fits { end_of frame ≤ length (bytes_held self.old.held) }
-        requires few { end_of frame ≤ 780 }
         ensures handling { Handling (handled_here (items_of self.old) (R.Rule.finding self.old.rule) (⟦<Self as Meaning>⟧.state self.old) frame) (⟦<Self as Meaning>⟧.state self.new) out.old out.new result }
         ensures kept { Kept self.old self.new }
     {
@@ -75,10 +76,9 @@ impl<B: Store, F: Store, R: Rule> Receiver<B, F, R> {
 
     // The first frame in the held bytes; else how much noise there is.
     fn first(&self) -> Result<HeldFrame, usize>
-        ensures is { FirstIs (bytes_held self.now.held) result }
-        ensures few { first_end result ≤ 780 }
+        ensures { FirstIs (bytes_held self.now.held) result }
     {
-        first_in(self.held.as_slice())
+        HeldFrame::first_in(self.held.as_slice())
     }
 
     // Answers the first frame that is held, if it is whole: what it was, its verdict, and how many bytes were written at the start of the buffer.
