@@ -11,6 +11,7 @@ ghost use Rattle.receiver.specs.Written.{verdict_on};
 ghost use Rattle.receiver.specs.Plans.{after_plan, after_grant, after_verdict, grant_length, reply_length, verdict_id, told_by};
 
 use super::Receiver;
+use super::handling::ANSWER_ROOM;
 use super::meaning::Meaning;
 use crate::first::HeldFrame;
 use crate::transaction::{Granted, LayerChange, Plan};
@@ -86,9 +87,8 @@ impl<B: Store, F: Store, R: Rule> Receiver<B, F, R> {
         &mut self,
         frame: HeldFrame,
         judged: Result<Granted, Refusal>,
-        out: &mut [u8],
+        out: &mut [u8; ANSWER_ROOM],
     ) -> Telling
-        requires room { 790 ≤ length out.old }
         requires few { reply_length judged ≤ 780 }
         ensures value { result ≡ told_by frame judged }
         ensures out { out.new ≡ patched (reply_length judged) (frame_bytes (verdict_on (verdict_id judged) frame.id)) out.old }

@@ -22,13 +22,11 @@ use request::{CONFIGURATION_CLASS, Request};
 use rule::Rule;
 
 // The least room for an answer: the largest reply, and the verdict behind it.
-// kept: the room is a clause of each function here; an array lent by `first_chunk_mut` was tried in a small crate alone, and its proof ran out of steps
 pub const ANSWER_ROOM: usize = 790;
 
 impl<B: Store, F: Store, R: Rule> Receiver<B, F, R> {
     // Judges a request that is held.
-    fn judge_held(&self, frame: HeldFrame, out: &mut [u8]) -> Result<Granted, Refusal>
-        requires room { 790 ≤ length out.old }
+    fn judge_held(&self, frame: HeldFrame, out: &mut [u8; ANSWER_ROOM]) -> Result<Granted, Refusal>
         requires class { frame.class ≡ configuration_class }
         requires fits { end_of frame ≤ length (bytes_held self.now.held) }
         ensures { Judged (items_of self.now) out.old out.new (judged (items_of self.now) (R.Rule.finding self.now.rule) (⟦<Self as Meaning>⟧.state self.now) (message_in (bytes_held self.now.held) frame)) result }
@@ -42,8 +40,7 @@ impl<B: Store, F: Store, R: Rule> Receiver<B, F, R> {
     }
 
     // Handles a frame that is held: one of the configuration class is judged and carried out. Then it is dropped.
-    fn handle(&mut self, frame: HeldFrame, out: &mut [u8]) -> Telling
-        requires room { 790 ≤ length out.old }
+    fn handle(&mut self, frame: HeldFrame, out: &mut [u8; ANSWER_ROOM]) -> Telling
         requires fits { end_of frame ≤ length (bytes_held self.old.held) }
         ensures handling { Handling (handled_here (items_of self.old) (R.Rule.finding self.old.rule) (⟦<Self as Meaning>⟧.state self.old) frame) (⟦<Self as Meaning>⟧.state self.new) out.old out.new result }
         ensures kept { Kept self.old self.new }
@@ -60,8 +57,7 @@ impl<B: Store, F: Store, R: Rule> Receiver<B, F, R> {
     }
 
     // Drops noise up to the first frame heard or undecided place, and handles at most that frame.
-    fn answer_first(&mut self, out: &mut [u8]) -> Answered
-        requires { 790 ≤ length out.old }
+    fn answer_first(&mut self, out: &mut [u8; ANSWER_ROOM]) -> Answered
         ensures answering { Answering (answering_of (items_of self.old) (R.Rule.finding self.old.rule) (⟦<Self as Meaning>⟧.state self.old)) (⟦<Self as Meaning>⟧.state self.new) out.old out.new result }
         ensures kept { Kept self.old self.new }
     {
@@ -95,9 +91,9 @@ impl<B: Store, F: Store, R: Rule> Receiver<B, F, R> {
         if self.shut {
             return Err(CallFault::Shut);
         }
-        if out.len() < ANSWER_ROOM {
-            return Err(CallFault::BufferTooShort);
+        match out.first_chunk_mut::<ANSWER_ROOM>() {
+            Some(room) => Ok(self.answer_first(room)),
+            None => Err(CallFault::BufferTooShort),
         }
-        Ok(self.answer_first(out))
     }
 }

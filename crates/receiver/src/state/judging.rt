@@ -12,6 +12,7 @@ ghost use Rattle.receiver.specs.State.{opened_of, items_of};
 ghost use Rattle.receiver.specs.Plans.{judgement_of, planned_with, Judged};
 
 use super::Receiver;
+use super::handling::ANSWER_ROOM;
 use super::meaning::Meaning;
 use crate::transaction::{Granted, LayerChange, Plan, Transaction};
 use configuration::{apply_changes, fault_in};
@@ -113,8 +114,11 @@ impl<B: Store, F: Store, R: Rule> Receiver<B, F, R> {
     }
 
     // A set, a delete or a get whose payload has a head.
-    fn judge_request(&self, request: &Request<'_>, out: &mut [u8]) -> Result<Granted, Refusal>
-        requires room { 790 ≤ length out.old }
+    fn judge_request(
+        &self,
+        request: &Request<'_>,
+        out: &mut [u8; ANSWER_ROOM],
+    ) -> Result<Granted, Refusal>
         requires long { 4 ≤ length request.now.payload.now }
         ensures { Judged (items_of self.now) out.old out.new (if nat_eq request.now.id valget then judged_get (items_of self.now) (⟦<Self as Meaning>⟧.state self.now) (carrying configuration_class request.now.id request.now.payload.now) else judged_change (items_of self.now) (R.Rule.finding self.now.rule) (⟦<Self as Meaning>⟧.state self.now) (carrying configuration_class request.now.id request.now.payload.now)) result }
     {
@@ -128,8 +132,11 @@ impl<B: Store, F: Store, R: Rule> Receiver<B, F, R> {
     }
 
     // Any frame of the configuration class.
-    pub(crate) fn judge(&self, request: &Request<'_>, out: &mut [u8]) -> Result<Granted, Refusal>
-        requires { 790 ≤ length out.old }
+    pub(crate) fn judge(
+        &self,
+        request: &Request<'_>,
+        out: &mut [u8; ANSWER_ROOM],
+    ) -> Result<Granted, Refusal>
         ensures { Judged (items_of self.now) out.old out.new (judged (items_of self.now) (R.Rule.finding self.now.rule) (⟦<Self as Meaning>⟧.state self.now) (carrying configuration_class request.now.id request.now.payload.now)) result }
     {
         if !is_request(request.id) {
