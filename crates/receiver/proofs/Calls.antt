@@ -1,5 +1,5 @@
 -- What each call comes to in the reference, in the direction of the code's contracts.
-use Rattle.std.proofs.Common.{◌≡◌, ℕ, ◌-◌, ◌<◌, ◌≤◌, min, Bool, true, false, cond, ltb, List, [], ◌++◌, length, take, Some, None, Option, sym, ap, ◌∙◌}
+use Rattle.std.proofs.Common.{◌≡◌, ℕ, ◌-◌, ◌<◌, ◌≤◌, min, Bool, true, false, cond, ltb, List, [], ◌++◌, length, take, Some, None, Option, sym, ap, ◌∙◌, subst}
 use Rattle.std.proofs.lemmas.Bool.{cond-true, cond-false, lt-ltb, le-ltb}
 use Rattle.rule.specs.Rules.{Finding}
 use Rattle.reference.specs.declared.fault.CallFault.{CallFault}
@@ -13,6 +13,7 @@ use Rattle.reference.specs.Parts.{stack_fault, stacked}
 use Rattle.reference.specs.Requests.{Catalogue, is_known}
 use Rattle.reference.specs.Events.{Asking, take_piece, answer_into, look_at, restart_with, Event, took, looked, restarted, refused, written_by, answered_event}
 use Rattle.reference.specs.Receiver.{State, Stepped, with_held, step, served, taking, layer_of, looking, after_battery, restarting}
+use Rattle.reference.proofs.Verdicts.{writes_fit}
 use Rattle.receiver.specs.Handled.{Answering, answering_of, answered_length}
 
 module _ (cat : Catalogue) (rule : Finding) (s : State) where
@@ -52,6 +53,9 @@ module _ (cat : Catalogue) (rule : Finding) (s : State) where
   answer_is : (room : ℕ) → s.shut ≡ false → 790 ≤ room → answering_of cat rule s ≡ step cat rule s (answer_into room)
   unfolding served
   answer_is room off le = sym (cond-false (ltb room 790) _ _ (le-ltb room 790 le)) ∙ on (answer_into room) off
+
+  pub answer_fits : (room : ℕ) → s.shut ≡ false → 790 ≤ room → length (written_by (answering_of cat rule s).event) ≤ 790
+  answer_fits room off le = subst (λ (r : Stepped). length (written_by r.event) ≤ 790) (sym (answer_is room off le)) (writes_fit cat rule s (answer_into room))
 
   -- a refusal writes nothing
   pub refused_buffer : (c : Asking) (f : CallFault) (old : List ℕ) → refused c f ≡ (step cat rule s c).event → old ≡ in_front (written_by (step cat rule s c).event) old

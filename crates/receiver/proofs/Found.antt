@@ -48,8 +48,8 @@ placed (x ∷ xs) = go (standing (x ∷ xs)) refl (placed xs)
         }
 
 module _ (bs : List ℕ) (found : Found) where
-  pub found_frame : (f : Frame) → finding_of found ≡ finding bs → found.frame ≡ Some f → FirstIs bs (Ok (record { noise = found.noise; class = f.class; id = f.id; length = length f.payload.now }))
-  found_frame f e is =
+  pub found_frame : (f : Frame) (few : found.noise + (8 + length f.payload.now) ≤ 780) → finding_of found ≡ finding bs → found.frame ≡ Some f → FirstIs bs (Ok (record { noise = found.noise; class = f.class; id = f.id; length = length f.payload.now; few = few }))
+  found_frame f few e is =
       let m : Message = message_of f in
       let whole : record { skipped = found.noise; message = Some m; rest = found.rest.now } ≡ finding bs = ap (λ o. record { skipped = found.noise; message = option_map message_of o; rest = found.rest.now }) (sym is) ∙ e in
       let p : Placed bs (record { skipped = found.noise; message = Some m; rest = found.rest.now }) = subst (Placed bs) (sym whole) (placed bs) in
@@ -58,6 +58,13 @@ module _ (bs : List ℕ) (found : Found) where
             ap₂ (λ (l r : List ℕ). record { skipped = found.noise; message = Some (carrying f.class f.id l); rest = r }) (sym (p.payload m refl)) (sym p.rest) ∙ whole;
         fits = p.within;
       }
+
+  -- of at most 780 bytes it takes at most 780
+  pub found_few : (f : Frame) → finding_of found ≡ finding bs → found.frame ≡ Some f → length bs ≤ 780 → found.noise + (8 + length f.payload.now) ≤ 780
+  found_few f e is le =
+      let whole : record { skipped = found.noise; message = Some (message_of f); rest = found.rest.now } ≡ finding bs = ap (λ o. record { skipped = found.noise; message = option_map message_of o; rest = found.rest.now }) (sym is) ∙ e in
+      let within : found.noise + size_of (message_of f) ≤ length bs = (subst (Placed bs) (sym whole) (placed bs)).within in
+      omega (arith, within, le)
 
   pub found_none : finding_of found ≡ finding bs → found.frame ≡ None → FirstIs bs (Err found.noise)
   found_none e is =

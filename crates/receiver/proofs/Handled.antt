@@ -56,7 +56,7 @@ judged_held cat rule s bs m =
 
 after_held : (cat : Catalogue) (s : State) (j : Result Granted Refusal) → (after_verdict cat s j).held_bytes ≡ s.held_bytes
 unfolding applied
-after_held cat s (Ok (Change (Apply l c))) = refl
+after_held cat s (Ok (Change (Apply c))) = refl
 after_held cat s (Ok (Change (Queue t))) = refl
 after_held cat s (Ok (Reply n)) = refl
 after_held cat s (Err r) = refl
@@ -65,14 +65,14 @@ after_held cat s (Err r) = refl
 
 carried_state : (cat : Catalogue) (s : State) (bs out : List ℕ) (n : ℕ) (m : Message) (j : Result Granted Refusal) → with_held (after_verdict cat s j) bs ≡ (carried_out cat (with_held s bs) n m (verdicted_of cat out j)).state
 unfolding applied
-carried_state cat s bs out n m (Ok (Change (Apply l c))) = refl
+carried_state cat s bs out n m (Ok (Change (Apply c))) = refl
 carried_state cat s bs out n m (Ok (Change (Queue t))) = refl
 carried_state cat s bs out n m (Ok (Reply k)) = refl
 carried_state cat s bs out n m (Err r) = refl
 
 carried_event : (cat : Catalogue) (s : State) (out : List ℕ) (n id : ℕ) (p : List ℕ) (j : Result Granted Refusal)
     → told n configuration_class id (verdict_of j) (reply_of (verdicted_of cat out j) ++ frame_bytes (verdict_on (verdict_id j) id)) ≡ (carried_out cat s n (carrying configuration_class id p) (verdicted_of cat out j)).event
-carried_event cat s out n id p (Ok (Change (Apply l c))) = refl
+carried_event cat s out n id p (Ok (Change (Apply c))) = refl
 carried_event cat s out n id p (Ok (Change (Queue t))) = refl
 carried_event cat s out n id p (Ok (Reply k)) = refl
 carried_event cat s out n id p (Err r) = refl

@@ -5,6 +5,7 @@ pub mod Found
 pub mod Handled
 pub mod Judged
 pub mod Layers
+pub mod Lent
 pub mod Made
 pub mod Planning
 pub mod Small

@@ -23,7 +23,7 @@ use Rattle.receiver.specs.declared.first.HeldFrame.{HeldFrame}
 use Rattle.receiver.specs.State.{opened_of}
 
 abbrev pub plan_of : List Entry → Plan → Planned
-plan_of es (Apply l c) = apply l (changes_by es c.slots)
+plan_of es (Apply c) = apply c.layers (changes_by es c.items.slots)
 plan_of es (Queue t) = queue (opened_of es t)
 
 abbrev pub judgement_of : List Entry → Result Plan Refusal → Result Planned Refusal
@@ -32,7 +32,7 @@ judgement_of es (Err r) = Err r
 
 -- the state that a plan leaves
 abbrev pub after_plan : List Entry → State → Plan → State
-after_plan es s (Apply l c) = applied es s l (changes_by es c.slots)
+after_plan es s (Apply c) = applied es s c.layers (changes_by es c.items.slots)
 after_plan es s (Queue t) = with_transaction s (Some (opened_of es t))
 
 -- what an action 0, 1 or 2 comes to with the data of its frame

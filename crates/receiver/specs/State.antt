@@ -19,7 +19,7 @@ use Rattle.receiver.specs.declared.state.Receiver.{Receiver}
 use Rattle.receiver.specs.declared.transaction.Transaction.{Transaction}
 
 abbrev pub opened_of : List Entry → Transaction → Opened
-opened_of es t = record { kind = t.id; layers = t.layers; queue = changes_by es t.queue.slots }
+opened_of es t = record { kind = t.id; layers = t.queue.layers; queue = changes_by es t.queue.items.slots }
 
 -- the entries of the catalogue that was copied
 abbrev pub items_of : {B F R : Type 0} → Receiver B F R → List Entry

@@ -2,18 +2,24 @@
 use reference::Layers;
 use request::ItemChanges;
 
-// The ID of the transaction's kind, the layers that it was opened for, and what it would change.
+// What is to change, and in which layers.
+#[derive(Clone, Copy)]
+pub(crate) struct LayerChange {
+    pub layers: Layers,
+    pub items: ItemChanges,
+}
+
+// The ID of the transaction's kind, and what it would change in the layers that it was opened for.
 #[derive(Clone, Copy)]
 pub(crate) struct Transaction {
     pub id: u8,
-    pub layers: Layers,
-    pub queue: ItemChanges,
+    pub queue: LayerChange,
 }
 
 #[derive(Clone, Copy)]
 pub(crate) enum Plan {
-    // change these layers so, and end the transaction
-    Apply(Layers, ItemChanges),
+    // make this change, and end the transaction
+    Apply(LayerChange),
     // keep this transaction open
     Queue(Transaction),
 }

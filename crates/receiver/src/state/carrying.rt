@@ -11,14 +11,15 @@ ghost use Rattle.receiver.specs.Written.{verdict_on};
 ghost use Rattle.receiver.specs.Plans.{after_plan, after_grant, after_verdict, grant_length, reply_length, verdict_id, told_by};
 
 use super::Receiver;
+use super::handling::ANSWER_ROOM;
 use super::meaning::Meaning;
 use crate::first::HeldFrame;
-use crate::transaction::{Granted, Plan};
-use crate::verdict::{ACK, NAK, write_verdict};
+use crate::transaction::{Granted, LayerChange, Plan};
+use crate::verdict::{Sign, write_verdict};
 use catalogue::Catalogue;
 use configuration::apply_changes;
 use layer::Store;
-use reference::{Layers, Refusal, Telling, Verdict};
+use reference::{Refusal, Telling, Verdict};
 use request::ItemChanges;
 use rule::Rule;
 
@@ -33,21 +34,17 @@ fn apply_if<S: Store>(chosen: bool, catalogue: &Catalogue, changes: &ItemChanges
 
 impl<B: Store, F: Store, R: Rule> Receiver<B, F, R> {
     // Changes the chosen layers, RAM first, then BBR, then Flash, and ends the transaction.
-    fn apply(&mut self, layers: Layers, changes: &ItemChanges)
-        ensures after { ⟦<Self as Meaning>⟧.state self.new ≡ applied (items_of self.old) (⟦<Self as Meaning>⟧.state self.old) layers (changes_by (items_of self.old) changes.now.slots) }
+    fn apply(&mut self, change: &LayerChange)
+        ensures after { ⟦<Self as Meaning>⟧.state self.new ≡ applied (items_of self.old) (⟦<Self as Meaning>⟧.state self.old) change.now.layers (changes_by (items_of self.old) change.now.items.slots) }
         ensures kept { Kept self.old self.new }
     {
+        let LayerChange { layers, items } = change;
         let catalogue = &self.layers.lower.catalogue;
-        apply_if(layers.ram, catalogue, changes, &mut self.ram);
+        apply_if(layers.ram, catalogue, items, &mut self.ram);
         let catalogue = &self.layers.lower.catalogue;
-        apply_if(layers.bbr, catalogue, changes, &mut self.layers.upper.upper);
+        apply_if(layers.bbr, catalogue, items, &mut self.layers.upper.upper);
         let catalogue = &self.layers.lower.catalogue;
-        apply_if(
-            layers.flash,
-            catalogue,
-            changes,
-            &mut self.layers.upper.lower,
-        );
+        apply_if(layers.flash, catalogue, items, &mut self.layers.upper.lower);
         self.transaction = None;
     }
 
@@ -57,7 +54,7 @@ impl<B: Store, F: Store, R: Rule> Receiver<B, F, R> {
         ensures kept { Kept self.old self.new }
     {
         match plan {
-            Plan::Apply(layers, changes) => self.apply(layers, &changes),
+            Plan::Apply(change) => self.apply(&change),
             Plan::Queue(transaction) => self.transaction = Some(transaction),
         }
     }
@@ -90,9 +87,8 @@ impl<B: Store, F: Store, R: Rule> Receiver<B, F, R> {
         &mut self,
         frame: HeldFrame,
         judged: Result<Granted, Refusal>,
-        out: &mut [u8],
+        out: &mut [u8; ANSWER_ROOM],
     ) -> Telling
-        requires room { 790 ≤ length out.old }
         requires few { reply_length judged ≤ 780 }
         ensures value { result ≡ told_by frame judged }
         ensures out { out.new ≡ patched (reply_length judged) (frame_bytes (verdict_on (verdict_id judged) frame.id)) out.old }
@@ -102,12 +98,12 @@ impl<B: Store, F: Store, R: Rule> Receiver<B, F, R> {
         match judged {
             Ok(granted) => {
                 let place = self.grant(granted);
-                let length = write_verdict(out, place, ACK, frame.id);
+                let length = place + write_verdict(&mut out[place..], Sign::Ack, frame.id);
                 frame.told(Verdict::Ack, length)
             }
             Err(refusal) => {
                 self.transaction = None;
-                let length = write_verdict(out, 0, NAK, frame.id);
+                let length = write_verdict(out, Sign::Nak, frame.id);
                 frame.told(Verdict::Nak(refusal), length)
             }
         }

@@ -1,5 +1,5 @@
 // Judging a get: its reply is written into the buffer, from the layer that it names.
-ghost use Rattle.std.specs.Prelude.{◌≡◌, ◌≤◌, length};
+ghost use Rattle.std.specs.Prelude.{◌≡◌, length};
 ghost use Rattle.catalogue.specs.Owned.{entries_of};
 ghost use Rattle.page.specs.Pages.{page_bytes, in_front_if_made};
 ghost use Rattle.reference.specs.Requests.{ok_map};
@@ -8,6 +8,7 @@ ghost use Rattle.reference.specs.Receiver.{layer_of};
 ghost use Rattle.receiver.specs.Plans.{page_over, gotten};
 
 use super::Receiver;
+use super::handling::ANSWER_ROOM;
 use super::meaning::Meaning;
 use catalogue::Catalogue;
 use layer::{Layer, Store};
@@ -21,9 +22,8 @@ fn reply_from<L: Layer>(
     catalogue: &Catalogue,
     layer: &L,
     payload: &[u8],
-    out: &mut [u8],
+    out: &mut [u8; ANSWER_ROOM],
 ) -> Result<usize, Refusal>
-    requires { 790 ≤ length out.old }
     ensures value { result ≡ ok_map length (page_bytes (entries_of catalogue.now) (L.Layer.settings layer.now) payload.now) }
     ensures out { out.new ≡ in_front_if_made (page_bytes (entries_of catalogue.now) (L.Layer.settings layer.now) payload.now) out.old }
 {
@@ -36,8 +36,12 @@ fn reply_from<L: Layer>(
 
 impl<B: Store, F: Store, R: Rule> Receiver<B, F, R> {
     // The reply from the layer with this number; none where there is no such layer, or a Flash that is not usable.
-    fn reply_from_layer(&self, layer: u8, payload: &[u8], out: &mut [u8]) -> Result<usize, Refusal>
-        requires { 790 ≤ length out.old }
+    fn reply_from_layer(
+        &self,
+        layer: u8,
+        payload: &[u8],
+        out: &mut [u8; ANSWER_ROOM],
+    ) -> Result<usize, Refusal>
         ensures value { result ≡ ok_map length (page_over (items_of self.now) (layer_of (items_of self.now) (⟦<Self as Meaning>⟧.state self.now) layer) payload.now) }
         ensures out { out.new ≡ in_front_if_made (page_over (items_of self.now) (layer_of (items_of self.now) (⟦<Self as Meaning>⟧.state self.now) layer) payload.now) out.old }
     {
@@ -46,8 +50,11 @@ impl<B: Store, F: Store, R: Rule> Receiver<B, F, R> {
     }
 
     // A get. The length of its reply, which stands at the start of the buffer.
-    pub(crate) fn judge_get(&self, payload: &[u8], out: &mut [u8]) -> Result<usize, Refusal>
-        requires { 790 ≤ length out.old }
+    pub(crate) fn judge_get(
+        &self,
+        payload: &[u8],
+        out: &mut [u8; ANSWER_ROOM],
+    ) -> Result<usize, Refusal>
         ensures value { result ≡ ok_map length (gotten (items_of self.now) (⟦<Self as Meaning>⟧.state self.now) payload.now) }
         ensures out { out.new ≡ in_front_if_made (gotten (items_of self.now) (⟦<Self as Meaning>⟧.state self.now) payload.now) out.old }
     {

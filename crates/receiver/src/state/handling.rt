@@ -6,44 +6,42 @@ ghost use Rattle.reference.specs.Requests.{configuration_class};
 ghost use Rattle.reference.specs.Receiver.{judged};
 ghost use Rattle.receiver.specs.Plans.{Judged};
 ghost use Rattle.reference.specs.Events.{answer_into, written_by};
-ghost use Rattle.receiver.specs.First.{message_in, end_of, FirstIs, first_end};
+ghost use Rattle.receiver.specs.First.{message_in, end_of, FirstIs};
 ghost use Rattle.receiver.specs.State.{items_of, Kept, answer_event};
 ghost use Rattle.receiver.specs.Small.{RefusedLeaves, NakLeaves, AllOrNone};
 ghost use Rattle.receiver.specs.Handled.{handled_here, Handling, Answering, answering_of, length_of};
 
 use super::Receiver;
 use super::meaning::Meaning;
-use crate::first::{HeldFrame, first_in};
+use crate::first::HeldFrame;
 use crate::transaction::Granted;
+use frame::HEADER;
 use layer::Store;
 use reference::{Answered, CallFault, Refusal, Telling, Verdict};
 use request::{CONFIGURATION_CLASS, Request};
 use rule::Rule;
 
 // The least room for an answer: the largest reply, and the verdict behind it.
-// kept: the room is a clause of each function here; an array lent by `first_chunk_mut` was tried in a small crate alone, and its proof ran out of steps
 pub const ANSWER_ROOM: usize = 790;
 
 impl<B: Store, F: Store, R: Rule> Receiver<B, F, R> {
     // Judges a request that is held.
-    fn judge_held(&self, frame: HeldFrame, out: &mut [u8]) -> Result<Granted, Refusal>
-        requires room { 790 ≤ length out.old }
+    fn judge_held(&self, frame: HeldFrame, out: &mut [u8; ANSWER_ROOM]) -> Result<Granted, Refusal>
         requires class { frame.class ≡ configuration_class }
         requires fits { end_of frame ≤ length (bytes_held self.now.held) }
         ensures { Judged (items_of self.now) out.old out.new (judged (items_of self.now) (R.Rule.finding self.now.rule) (⟦<Self as Meaning>⟧.state self.now) (message_in (bytes_held self.now.held) frame)) result }
     {
+        let start = frame.noise + HEADER;
         let request = Request {
             id: frame.id,
-            payload: frame.payload(self.held.as_slice()),
+            payload: &self.held.as_slice()[start..start + frame.length],
         };
         self.judge(&request, out)
     }
 
     // Handles a frame that is held: one of the configuration class is judged and carried out. Then it is dropped.
-    fn handle(&mut self, frame: HeldFrame, out: &mut [u8]) -> Telling
-        requires room { 790 ≤ length out.old }
+    fn handle(&mut self, frame: HeldFrame, out: &mut [u8; ANSWER_ROOM]) -> Telling
         requires fits { end_of frame ≤ length (bytes_held self.old.held) }
-        requires few { end_of frame ≤ 780 }
         ensures handling { Handling (handled_here (items_of self.old) (R.Rule.finding self.old.rule) (⟦<Self as Meaning>⟧.state self.old) frame) (⟦<Self as Meaning>⟧.state self.new) out.old out.new result }
         ensures kept { Kept self.old self.new }
     {
@@ -59,8 +57,7 @@ impl<B: Store, F: Store, R: Rule> Receiver<B, F, R> {
     }
 
     // Drops noise up to the first frame heard or undecided place, and handles at most that frame.
-    fn answer_first(&mut self, out: &mut [u8]) -> Answered
-        requires { 790 ≤ length out.old }
+    fn answer_first(&mut self, out: &mut [u8; ANSWER_ROOM]) -> Answered
         ensures answering { Answering (answering_of (items_of self.old) (R.Rule.finding self.old.rule) (⟦<Self as Meaning>⟧.state self.old)) (⟦<Self as Meaning>⟧.state self.new) out.old out.new result }
         ensures kept { Kept self.old self.new }
     {
@@ -75,10 +72,9 @@ impl<B: Store, F: Store, R: Rule> Receiver<B, F, R> {
 
     // The first frame in the held bytes; else how much noise there is.
     fn first(&self) -> Result<HeldFrame, usize>
-        ensures is { FirstIs (bytes_held self.now.held) result }
-        ensures few { first_end result ≤ 780 }
+        ensures { FirstIs (bytes_held self.now.held) result }
     {
-        first_in(self.held.as_slice())
+        HeldFrame::first_in(self.held.as_slice())
     }
 
     // Answers the first frame that is held, if it is whole: what it was, its verdict, and how many bytes were written at the start of the buffer.
@@ -95,9 +91,9 @@ impl<B: Store, F: Store, R: Rule> Receiver<B, F, R> {
         if self.shut {
             return Err(CallFault::Shut);
         }
-        if out.len() < ANSWER_ROOM {
-            return Err(CallFault::BufferTooShort);
+        match out.first_chunk_mut::<ANSWER_ROOM>() {
+            Some(room) => Ok(self.answer_first(room)),
+            None => Err(CallFault::BufferTooShort),
         }
-        Ok(self.answer_first(out))
     }
 }

@@ -12,8 +12,9 @@ ghost use Rattle.receiver.specs.State.{opened_of, items_of};
 ghost use Rattle.receiver.specs.Plans.{judgement_of, planned_with, Judged};
 
 use super::Receiver;
+use super::handling::ANSWER_ROOM;
 use super::meaning::Meaning;
-use crate::transaction::{Granted, Plan, Transaction};
+use crate::transaction::{Granted, LayerChange, Plan, Transaction};
 use configuration::{apply_changes, fault_in};
 use layer::Store;
 use reference::{Layers, Refusal};
@@ -30,12 +31,12 @@ fn is_request(id: u8) -> bool
 
 impl<B: Store, F: Store, R: Rule> Receiver<B, F, R> {
     // The item at fault in the RAM that applying would leave. It is tried on a copy.
-    fn fault_of(&self, layers: Layers, changes: &ItemChanges) -> Option<usize>
-        ensures { result ≡ apply_fault (items_of self.now) (R.Rule.finding self.now.rule) (⟦<Self as Meaning>⟧.state self.now) layers (changes_by (items_of self.now) changes.now.slots) }
+    fn fault_of(&self, change: &LayerChange) -> Option<usize>
+        ensures { result ≡ apply_fault (items_of self.now) (R.Rule.finding self.now.rule) (⟦<Self as Meaning>⟧.state self.now) change.now.layers (changes_by (items_of self.now) change.now.items.slots) }
     {
-        if layers.ram {
+        if change.layers.ram {
             let mut ram = self.ram.copied();
-            apply_changes(&self.layers.lower.catalogue, changes, &mut ram);
+            apply_changes(&self.layers.lower.catalogue, &change.items, &mut ram);
             fault_in(&self.layers.lower.catalogue, &ram, &self.rule)
         } else {
             None
@@ -43,13 +44,13 @@ impl<B: Store, F: Store, R: Rule> Receiver<B, F, R> {
     }
 
     // Applying, where RAM would stay fit.
-    fn plan_to_apply(&self, layers: Layers, changes: ItemChanges) -> Result<Plan, Refusal>
-        ensures { judgement_of (items_of self.now) result ≡ applying (apply_fault (items_of self.now) (R.Rule.finding self.now.rule) (⟦<Self as Meaning>⟧.state self.now) layers (changes_by (items_of self.now) changes.slots)) layers (changes_by (items_of self.now) changes.slots) }
+    fn plan_to_apply(&self, change: LayerChange) -> Result<Plan, Refusal>
+        ensures { judgement_of (items_of self.now) result ≡ applying (apply_fault (items_of self.now) (R.Rule.finding self.now.rule) (⟦<Self as Meaning>⟧.state self.now) change.layers (changes_by (items_of self.now) change.items.slots)) change.layers (changes_by (items_of self.now) change.items.slots) }
     {
-        if let Some(item) = self.fault_of(layers, &changes) {
+        if let Some(item) = self.fault_of(&change) {
             return Err(Refusal::Unfit(item));
         }
-        Ok(Plan::Apply(layers, changes))
+        Ok(Plan::Apply(change))
     }
 
     // What is queued; nothing where no transaction is open.
@@ -57,25 +58,23 @@ impl<B: Store, F: Store, R: Rule> Receiver<B, F, R> {
         ensures { changes_by (items_of self.now) result.slots ≡ queue_of (option_map (opened_of (items_of self.now)) self.now.transaction) }
     {
         self.transaction
-            .map_or(ItemChanges::none(), |transaction| transaction.queue)
+            .map_or(ItemChanges::none(), |transaction| transaction.queue.items)
     }
 
     // What an action that reads the data of its frame does with them.
-    fn plan_with(
-        &self,
-        id: u8,
-        layers: Layers,
-        action: Action,
-        changes: ItemChanges,
-    ) -> Result<Plan, Refusal>
-        ensures { judgement_of (items_of self.now) result ≡ planned_with (items_of self.now) (R.Rule.finding self.now.rule) (⟦<Self as Meaning>⟧.state self.now) id layers (action_number action) (changes_by (items_of self.now) changes.slots) }
+    fn plan_with(&self, id: u8, action: Action, change: LayerChange) -> Result<Plan, Refusal>
+        ensures { judgement_of (items_of self.now) result ≡ planned_with (items_of self.now) (R.Rule.finding self.now.rule) (⟦<Self as Meaning>⟧.state self.now) id change.layers (action_number action) (changes_by (items_of self.now) change.items.slots) }
     {
-        let queue = match action {
-            Action::Apply => return self.plan_to_apply(layers, changes),
-            Action::Open => changes,
-            Action::Add | Action::Close => self.queue_with(&changes),
+        let items = match action {
+            Action::Apply => return self.plan_to_apply(change),
+            Action::Open => change.items,
+            Action::Add | Action::Close => self.queue_with(&change.items),
         };
-        Ok(Plan::Queue(Transaction { id, layers, queue }))
+        let queue = LayerChange {
+            layers: change.layers,
+            items,
+        };
+        Ok(Plan::Queue(Transaction { id, queue }))
     }
 
     // What is queued, with more behind it.
@@ -91,11 +90,11 @@ impl<B: Store, F: Store, R: Rule> Receiver<B, F, R> {
         ensures { judgement_of (items_of self.now) result ≡ planned (items_of self.now) (R.Rule.finding self.now.rule) (⟦<Self as Meaning>⟧.state self.now) (carrying configuration_class request.now.id request.now.payload.now) layers (action_number action) }
     {
         if let Action::Close = action {
-            let queue = self.queue();
-            return self.plan_to_apply(layers, queue);
+            let items = self.queue();
+            return self.plan_to_apply(LayerChange { layers, items });
         }
-        let changes = request.read_data(&self.layers.lower.catalogue)?;
-        self.plan_with(request.id, layers, action, changes)
+        let items = request.read_data(&self.layers.lower.catalogue)?;
+        self.plan_with(request.id, action, LayerChange { layers, items })
     }
 
     // A set or a delete.
@@ -111,12 +110,15 @@ impl<B: Store, F: Store, R: Rule> Receiver<B, F, R> {
     fn opened_layers(&self) -> Option<Layers>
         ensures { result ≡ opened_layers (option_map (opened_of (items_of self.now)) self.now.transaction) }
     {
-        self.transaction.map(|transaction| transaction.layers)
+        self.transaction.map(|transaction| transaction.queue.layers)
     }
 
     // A set, a delete or a get whose payload has a head.
-    fn judge_request(&self, request: &Request<'_>, out: &mut [u8]) -> Result<Granted, Refusal>
-        requires room { 790 ≤ length out.old }
+    fn judge_request(
+        &self,
+        request: &Request<'_>,
+        out: &mut [u8; ANSWER_ROOM],
+    ) -> Result<Granted, Refusal>
         requires long { 4 ≤ length request.now.payload.now }
         ensures { Judged (items_of self.now) out.old out.new (if nat_eq request.now.id valget then judged_get (items_of self.now) (⟦<Self as Meaning>⟧.state self.now) (carrying configuration_class request.now.id request.now.payload.now) else judged_change (items_of self.now) (R.Rule.finding self.now.rule) (⟦<Self as Meaning>⟧.state self.now) (carrying configuration_class request.now.id request.now.payload.now)) result }
     {
@@ -130,8 +132,11 @@ impl<B: Store, F: Store, R: Rule> Receiver<B, F, R> {
     }
 
     // Any frame of the configuration class.
-    pub(crate) fn judge(&self, request: &Request<'_>, out: &mut [u8]) -> Result<Granted, Refusal>
-        requires { 790 ≤ length out.old }
+    pub(crate) fn judge(
+        &self,
+        request: &Request<'_>,
+        out: &mut [u8; ANSWER_ROOM],
+    ) -> Result<Granted, Refusal>
         ensures { Judged (items_of self.now) out.old out.new (judged (items_of self.now) (R.Rule.finding self.now.rule) (⟦<Self as Meaning>⟧.state self.now) (carrying configuration_class request.now.id request.now.payload.now)) result }
     {
         if !is_request(request.id) {

@@ -1,13 +1,18 @@
 use Rattle.std.proofs.Common.{rules}
 use Rattle.std.proofs.lemmas.Result.{err_from_is_err_and}
-use Rattle.receiver.proofs.Found.{found_frame, found_err}
-use Rattle.receiver.proofs.first.first_in.Goals as goal
+use Rattle.receiver.proofs.Found.{found_frame, found_few, found_err}
+use Rattle.receiver.proofs.first.HeldFrame.first_in.Goals as goal
 
 pub returns-in_err-frame : goal.returns-in_err-frame
 returns-in_err-frame c =
     let p = err_from_is_err_and c.from_residual.result c.from_residual.ensures.1 in
     let told = c.in_err-frame.ensures in
     rw (p.1, p.2) (search (rules, found_err))
+
+pub invariant_of-result : goal.invariant_of-result
+invariant_of-result c =
+    let told = c.in_ok-frame.ensures in
+    record { few = search (rules, found_few) }
 
 pub returns : goal.returns
 returns c =

@@ -1,0 +1,32 @@
+-- An answering into the part of a buffer that was lent is one into the whole buffer.
+use Rattle.std.proofs.Common.{◌≡◌, ℕ, ◌≤◌, List, ◌++◌, length, take, drop, sym, refl, ap, ◌∙◌, append_assoc, arith}
+use Rattle.std.proofs.lemmas.List.{length-append, length-take-le, take-append-le, drop-append-le, take-append-drop}
+use Rattle.frame.specs.Written.{in_front}
+use Rattle.reference.specs.declared.answered.Answered.{Answered}
+use Rattle.reference.specs.declared.answered.Answered.TheVariants.{NothingWhole, Told}
+use Rattle.reference.specs.Events.{told, written_by, answered_event}
+use Rattle.reference.specs.Receiver.{State, Stepped}
+use Rattle.receiver.specs.Handled.{Answering, answered_length}
+
+same_event : (a : Answered) (out behind : List ℕ) → answered_length a ≤ length out → answered_event (out ++ behind) a ≡ answered_event out a
+same_event (NothingWhole n) out behind le = refl
+same_event (Told t) out behind le = ap (told t.noise t.class t.id t.verdict) (take-append-le t.length out behind le)
+
+front_of : (w old : List ℕ) (n : ℕ) → n ≤ length old → length w ≤ n → in_front w (take n old) ++ drop n old ≡ in_front w old
+front_of w old n enough le =
+    let within : length w ≤ length (take n old) = let len = length-take-le n old enough in omega arith in
+    append_assoc w (drop (length w) (take n old)) (drop n old)
+    ∙ ap (λ l. w ++ l) (sym (drop-append-le (length w) (take n old) (drop n old) within) ∙ ap (drop (length w)) (take-append-drop n old))
+
+pub answered_in : (step : Stepped) (after : State) (a : Answered) (old room out : List ℕ) (n : ℕ) → n ≤ length old → room ≡ take n old → length (written_by step.event) ≤ n → Answering step after room out a
+    → Answering step after old (out ++ drop n old) a
+answered_in step after a old room out n enough front fits h =
+    let w : List ℕ = written_by step.event in
+    let within : length w ≤ length out =
+    let len = length-append w (drop (length w) room) in let same : length out ≡ length (w ++ drop (length w) room) = ap length h.buffer in omega arith in
+    record {
+      state = h.state;
+      event = same_event a out (drop n old) (let c = h.count in omega arith) ∙ h.event;
+      count = h.count;
+      buffer = ap (λ x. x ++ drop n old) (h.buffer ∙ ap (in_front w) front) ∙ front_of w old n enough fits;
+    }
