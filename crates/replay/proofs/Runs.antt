@@ -1,5 +1,5 @@
 -- Runs of calls, one call further; and answerings whose buffer is larger than any answer.
-use Rattle.std.proofs.Common.{◌≡◌, ℕ, ◌+◌, ◌<◌, ◌≤◌, min, Bool, true, false, cond, eqb, ltb, List, [], ◌∷◌, ◌++◌, map, reverse, length, get_or, take, drop, IfOk, Some, None, Ok, Err, Option, Result, sym, refl, ap, ◌∙◌, subst, ap₂, arith}
+use Rattle.std.proofs.Common.{◌≡◌, ℕ, ◌+◌, ◌<◌, ◌≤◌, min, Bool, true, false, cond, eqb, ltb, List, [], ◌∷◌, ◌++◌, map, reverse, length, get_or, take, drop, Some, None, Ok, Err, Option, Result, sym, refl, ap, ◌∙◌, subst, ap₂, arith}
 use Rattle.std.proofs.lemmas.Bool.{cond_both, cond-true}
 use Rattle.std.proofs.lemmas.Bool.Decides.{nat_tests}
 use Rattle.std.proofs.lemmas.List.{length-append, drop_more, drop_all, map_push, reverse-append}
@@ -21,7 +21,6 @@ use Rattle.reference.specs.Parts.{Parts, parts_fault}
 use Rattle.reference.specs.Law.{Law}
 use Rattle.reference.specs.Promise.{LawOf}
 use Rattle.receiver.specs.State.{answer_event}
-use Rattle.std.specs.declared.alloc.AllocError.{AllocError}
 use Rattle.replay.specs.declared.event.Event.{Event as Logged}
 use Rattle.reference.specs.declared.call.Call.{Call}
 use Rattle.replay.specs.Logs.{event_of, history_of, run_of, Replays}
@@ -103,9 +102,6 @@ module _ (cat : Catalogue) (rule : Finding) (room : ℕ) where
   pub any_refused : (s : State) (count : ℕ) (f : CallFault) → refused (answer_into count) f ≡ (step cat rule s (answer_into count)).event → count ≡ min room 790
       → refused (answer_into room) f ≡ (step cat rule s (answer_into room)).event
   any_refused s count f e is = any_event s count [] (Err f) is e
-
-pub logged_as : (r : Result Logged AllocError) (x y : Event) → IfOk r (λ e. event_of e ≡ x) → x ≡ y → IfOk r (λ e. event_of e ≡ y)
-logged_as r x y h e = subst (λ (z : Event). IfOk r (λ l. event_of l ≡ z)) e h
 
 -- One call further
 

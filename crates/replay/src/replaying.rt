@@ -30,7 +30,7 @@ struct Replaying<B: Store, F: Store, R: Rule> {
 
 impl<B: Store + Drop, F: Store + Drop, R: Rule + Drop> Replaying<B, F, R> {
     // An answering with room for so many bytes. No answer needs more than 790, so a larger buffer is not made.
-    #[tactic(auto, using(crate::proofs::Runs::any_state, crate::proofs::Runs::any_told))]
+    #[tactic(auto, using(crate::proofs::Runs::any_state, crate::proofs::Runs::any_told, crate::proofs::Runs::any_refused))]
     fn answer<'a>(&mut self, room: usize) -> Result<Event<'a>, Unlogged>
         ensures after { ⟦<Receiver<B, F, R> as Meaning>⟧.state self.new.receiver ≡ (⟦<Receiver<B, F, R> as Meaning>⟧.step self.old.receiver (answer_into room)).state }
         ensures event { LoggedAs (answer_into room) result (⟦<Receiver<B, F, R> as Meaning>⟧.step self.old.receiver (answer_into room)).event }
@@ -76,6 +76,7 @@ impl<B: Store + Drop, F: Store + Drop, R: Rule + Drop> Replaying<B, F, R> {
     }
 
     // All calls, in their order.
+    #[tactic(auto, using(crate::proofs::Runs::run_more, crate::proofs::Runs::run_all))]
     fn log_all<'a>(mut self, calls: &[Call<'a>]) -> Result<Replayed<'a, B, F, R>, AllocError>
         ensures { IfOk result (λ x. run_of x.log.items (⟦<Receiver<B, F, R> as Meaning>⟧.state x.receiver) ≡ run_from (items_of self.receiver) (R.Rule.finding self.receiver.rule) (record { state = ⟦<Receiver<B, F, R> as Meaning>⟧.state self.receiver; history = [] }) (map asking_of calls.now)) }
     {
