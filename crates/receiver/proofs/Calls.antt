@@ -11,10 +11,10 @@ use Rattle.reference.specs.declared.call.Battery.{Battery}
 use Rattle.reference.specs.Stores.{Settings, Store, held, holding}
 use Rattle.reference.specs.Parts.{stack_fault, stacked}
 use Rattle.reference.specs.Requests.{Catalogue, is_known}
-use Rattle.reference.specs.Events.{Asking, take_piece, answer_into, look_at, restart_with, Event, took, looked, restarted, refused, written_by, answered_event}
+use Rattle.reference.specs.Events.{Asking, take_piece, answer_into, look_at, restart_with, Event, took, looked, restarted, refused, written_by, answered_length, answered_event}
 use Rattle.reference.specs.Receiver.{State, Stepped, with_held, step, served, taking, layer_of, looking, after_battery, restarting}
 use Rattle.reference.proofs.Verdicts.{writes_fit}
-use Rattle.receiver.specs.Handled.{Answering, answering_of, answered_length}
+use Rattle.receiver.specs.Handled.{Answering, answering_of}
 
 module _ (cat : Catalogue) (rule : Finding) (s : State) where
   -- a shut receiver

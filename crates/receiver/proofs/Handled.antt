@@ -1,5 +1,5 @@
 -- From what the code did with a frame to how the reference handles it.
-use Rattle.std.proofs.Common.{◌≡◌, ℕ, zero, suc, ◌+◌, cond, not, ◌||◌, eqb, ltb, List, [], ◌++◌, length, take, drop, Ok, Err, Result, sym, refl, ap, ◌∙◌, subst, ap₂, append_assoc}
+use Rattle.std.proofs.Common.{◌≡◌, ℕ, zero, suc, ◌+◌, cond, not, ◌||◌, eqb, ltb, List, [], ◌++◌, length, take, drop, Some, Ok, Err, Result, sym, refl, ap, ◌∙◌, subst, ap₂, append_assoc}
 use Rattle.std.proofs.lemmas.Bool.{ne_eqb, cond-false}
 use Rattle.std.proofs.lemmas.List.{take_at, drop_at, drop-drop, length-append}
 use Rattle.frame.specs.Frames.{Message, carrying, frame_bytes}
@@ -23,7 +23,7 @@ use Rattle.receiver.specs.declared.transaction.Granted.{Granted}
 use Rattle.receiver.specs.declared.transaction.Granted.TheVariants.{Change, Reply}
 use Rattle.receiver.specs.First.{message_in, end_of}
 use Rattle.receiver.specs.Written.{verdict_on}
-use Rattle.receiver.specs.Handled.{telling_event, handled_here, Handling}
+use Rattle.receiver.specs.Handled.{handled_here, Answering}
 use Rattle.receiver.specs.Plans.{verdicted_of, reply_of, reply_length, verdict_of, verdict_id, after_verdict, told_by, Judged}
 
 -- Judging does not read the held bytes
@@ -114,11 +114,11 @@ module _ (cat : Catalogue) (rule : Finding) (s : State) (n id count end : ℕ) w
   step_is J e = ap (carried_out cat (with_held cancelled rest) n request) (judged_held cat rule cancelled rest request ∙ e)
 
   abbrev told_at : Result Granted Refusal → Telling
-  told_at j = record { noise = n; class = configuration_class; id = id; verdict = verdict_of j; length = reply_length j + 10 }
+  told_at j = record { class = configuration_class; id = id; verdict = verdict_of j; length = reply_length j + 10 }
 
   core : (old out after bs : List ℕ) (j : Result Granted Refusal) (t : Telling) → Judged cat old out (judged cat rule cancelled request) j
       → t ≡ told_at j → after ≡ patched (reply_length j) (frame_bytes (verdict_on (verdict_id j) id)) out → bs ≡ drop end (after_verdict cat cancelled j).held_bytes
-      → Handling step (with_held (after_verdict cat cancelled j) bs) old after t
+      → Answering step (with_held (after_verdict cat cancelled j) bs) old after (record { noise = n; told = Some t })
   core old out after bs j t judgement told_is out_is held-is =
       let J : Result Planned Refusal = verdicted_of cat out j in
       let same : judged cat rule cancelled request ≡ J = sym judgement.value in
@@ -134,7 +134,7 @@ module _ (cat : Catalogue) (rule : Finding) (s : State) (n id count end : ℕ) w
       record {
         state = ap (with_held (after_verdict cat cancelled j)) (held-is ∙ ap (drop end) (after_held cat cancelled j)) ∙ carried_state cat cancelled rest out n request j ∙ sym (ap (λ (x : Stepped). x.state) is);
         event =
-            ap (telling_event after) told_is
+            ap (λ (x : Telling). told n x.class x.id x.verdict (take x.length after)) told_is
             ∙ ap (told n configuration_class id (verdict_of j)) (ap (take (reply_length j + 10)) buffer ∙ take_at (w ++ v) (drop (length (w ++ v)) old) (reply_length j + 10) all) ∙ event;
         count = ap (λ (x : Telling). x.length) told_is ∙ sym all ∙ ap length written;
         buffer = buffer ∙ ap (λ l. in_front l old) written;
@@ -143,13 +143,13 @@ module _ (cat : Catalogue) (rule : Finding) (s : State) (n id count end : ℕ) w
   request_at : (cat₁ : Catalogue) (rule₁ : Finding) (s₁ s₂ s₃ : State) (old out after : List ℕ) (j : Result Granted Refusal) (t : Telling) → cat₁ ≡ cat → rule₁ ≡ rule → s₁ ≡ cancelled
       → Judged cat₁ old out (judged cat₁ rule₁ s₁ (carrying configuration_class id (take count (drop (n + 6) s₁.held_bytes)))) j
       → t ≡ told_at j → after ≡ patched (reply_length j) (frame_bytes (verdict_on (verdict_id j) id)) out → s₂ ≡ after_verdict cat₁ s₁ j → s₃ ≡ with_held s₂ (drop end s₂.held_bytes)
-      → Handling step s₃ old after t
+      → Answering step s₃ old after (record { noise = n; told = Some t })
   request_at cat₁ rule₁ s₁ s₂ s₃ old out after j t same-cat same-rule is-cancelled judgement told_is out_is left dropped =
       let by-cat = subst (λ (x : Catalogue). Judged x old out (judged x rule₁ s₁ (carrying configuration_class id (take count (drop (n + 6) s₁.held_bytes)))) j) same-cat judgement in
       let by-rule = subst (λ (x : Finding). Judged cat old out (judged cat x s₁ (carrying configuration_class id (take count (drop (n + 6) s₁.held_bytes)))) j) same-rule by-cat in
       let by_state = subst (λ (x : State). Judged cat old out (judged cat rule x (carrying configuration_class id (take count (drop (n + 6) x.held_bytes)))) j) is-cancelled by-rule in
       let after_is : s₂ ≡ after_verdict cat cancelled j = left ∙ ap₂ (λ (x : Catalogue) (y : State). after_verdict x y j) same-cat is-cancelled in
-      subst (λ (x : State). Handling step x old after t) (sym (dropped ∙ ap (λ (x : State). with_held x (drop end x.held_bytes)) after_is))
+      subst (λ (x : State). Answering step x old after (record { noise = n; told = Some t })) (sym (dropped ∙ ap (λ (x : State). with_held x (drop end x.held_bytes)) after_is))
       (core old out after (drop end (after_verdict cat cancelled j).held_bytes) j t by_state told_is out_is refl)
 
 module _ (cat : Catalogue) (rule : Finding) (s : State) (h : HeldFrame) where
@@ -159,24 +159,24 @@ module _ (cat : Catalogue) (rule : Finding) (s : State) (h : HeldFrame) where
   pub request_handled : (cat₁ : Catalogue) (rule₁ : Finding) (s₁ s₂ : State) (bs old out after : List ℕ) (j : Result Granted Refusal) (t : Telling) (end : ℕ) → h.class ≡ configuration_class → cat₁ ≡ cat → rule₁ ≡ rule
       → s₁ ≡ with_transaction s (of_kind h.id s.transaction) → Judged cat₁ old out (judged cat₁ rule₁ s₁ (message_in s₁.held_bytes h)) j
       → t ≡ told_by h j → after ≡ patched (reply_length j) (frame_bytes (verdict_on (verdict_id j) h.id)) out → s₂ ≡ after_verdict cat₁ s₁ j → bs ≡ drop end s₂.held_bytes → end ≡ end_of h
-      → Handling (handled_here cat rule s h) (with_held s₂ bs) old after t
+      → Answering (handled_here cat rule s h) (with_held s₂ bs) old after (record { noise = h.noise; told = Some t })
   request_handled cat₁ rule₁ s₁ s₂ bs old out after j t end of-class same-cat same-rule is-cancelled judgement told_is out_is left dropped end_is =
-      subst (λ c. Handling (handled cat rule (with_held s (drop (end_of h) s.held_bytes)) h.noise (as_class c s.held_bytes)) (with_held s₂ bs) old after t) (sym of-class)
+      subst (λ c. Answering (handled cat rule (with_held s (drop (end_of h) s.held_bytes)) h.noise (as_class c s.held_bytes)) (with_held s₂ bs) old after (record { noise = h.noise; told = Some t })) (sym of-class)
       (request_at cat rule s h.noise h.id h.length (end_of h) cat₁ rule₁ s₁ s₂ (with_held s₂ bs) old out after j t same-cat same-rule is-cancelled
       (subst (λ c. Judged cat₁ old out (judged cat₁ rule₁ s₁ (as_class c s₁.held_bytes)) j) of-class judgement)
-      (told_is ∙ ap (λ (c : ℕ). record { noise = h.noise; class = c; id = h.id; verdict = verdict_of j; length = reply_length j + 10 }) of-class) out_is left
+      (told_is ∙ ap (λ (c : ℕ). record { class = c; id = h.id; verdict = verdict_of j; length = reply_length j + 10 }) of-class) out_is left
       (ap (with_held s₂) (dropped ∙ ap (λ k. drop k s₂.held_bytes) end_is)))
 
   -- A frame of another class
 
-  pub outside_handled : (bs old : List ℕ) (t : Telling) (end : ℕ) → (h.class ≡ configuration_class → ⊥) → t ≡ record { noise = h.noise; class = h.class; id = h.id; verdict = Outside; length = 0 }
-      → bs ≡ drop end s.held_bytes → end ≡ end_of h → Handling (handled_here cat rule s h) (with_held s bs) old old t
+  pub outside_handled : (bs old : List ℕ) (t : Telling) (end : ℕ) → (h.class ≡ configuration_class → ⊥) → t ≡ record { class = h.class; id = h.id; verdict = Outside; length = 0 }
+      → bs ≡ drop end s.held_bytes → end ≡ end_of h → Answering (handled_here cat rule s h) (with_held s bs) old old (record { noise = h.noise; told = Some t })
   unfolding handled
   outside_handled bs old t end other told_is dropped end_is =
       let m : Message = message_in s.held_bytes h in
       let left : with_held s bs ≡ with_held s (drop (end_of h) s.held_bytes) = ap (with_held s) (dropped ∙ ap (λ k. drop k s.held_bytes) end_is) in
       let there : State = with_held s (drop (end_of h) s.held_bytes) in
       let is = cond-false (eqb m.class configuration_class) (carried_out cat (with_transaction there (of_kind m.id s.transaction)) h.noise m (judged cat rule (with_transaction there (of_kind m.id s.transaction)) m)) (record { state = there; event = told h.noise m.class m.id Outside [] }) (ne_eqb m.class configuration_class other) in
-      subst (λ (x : Telling). Handling (handled_here cat rule s h) (with_held s bs) old old x) (sym told_is)
-      (subst (λ (x : Stepped). Handling x (with_held s bs) old old (record { noise = h.noise; class = h.class; id = h.id; verdict = Outside; length = 0 })) (sym is)
+      subst (λ (x : Telling). Answering (handled_here cat rule s h) (with_held s bs) old old (record { noise = h.noise; told = Some x })) (sym told_is)
+      (subst (λ (x : Stepped). Answering x (with_held s bs) old old (record { noise = h.noise; told = Some (record { class = h.class; id = h.id; verdict = Outside; length = 0 }) })) (sym is)
       (record { state = left; event = refl; count = refl; buffer = refl }))

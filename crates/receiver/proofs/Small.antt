@@ -1,5 +1,5 @@
 -- The small promises follow from the reference's step.
-use Rattle.std.proofs.Common.{◌≡◌, ℕ, List, take, Ok, Err, Result, sym, refl, ap, ◌∙◌, subst, inl, inr}
+use Rattle.std.proofs.Common.{◌≡◌, ℕ, List, take, Some, None, Ok, Err, Option, Result, sym, refl, ap, ◌∙◌, subst, inl, inr}
 use Rattle.std.proofs.lemmas.Bool.{cond_both}
 use Rattle.frame.specs.Frames.{Message}
 use Rattle.frame.specs.Written.{in_front}
@@ -9,15 +9,14 @@ use Rattle.reference.specs.declared.refusal.Verdict.{Verdict}
 use Rattle.reference.specs.declared.refusal.Verdict.TheVariants.{Outside, Ack, Nak}
 use Rattle.reference.specs.declared.fault.CallFault.{CallFault}
 use Rattle.reference.specs.declared.answered.Answered.{Answered}
-use Rattle.reference.specs.declared.answered.Answered.TheVariants.{NothingWhole, Told}
 use Rattle.reference.specs.declared.answered.Telling.{Telling}
 use Rattle.reference.specs.Requests.{Catalogue}
-use Rattle.reference.specs.Events.{answer_into, Event, told, written_by}
+use Rattle.reference.specs.Events.{answer_into, Event, told, written_by, event_told, told_length}
 use Rattle.reference.specs.Receiver.{State, Stepped, Plan, apply, queue, reply, applied, carried_out, step}
 use Rattle.reference.proofs.Steps.{answer_ways, judged_in}
 use Rattle.reference.proofs.Refusals.{refused_keeps, nak_keeps}
 use Rattle.receiver.specs.State.{answer_event}
-use Rattle.receiver.specs.Small.{RefusedLeaves, NakedBy, NakLeaves, AllOrNone}
+use Rattle.receiver.specs.Small.{RefusedLeaves, NakedBy, NakTold, NakLeaves, AllOrNone}
 
 module _ (cat : Catalogue) (rule : Finding) (s : State) (room : ℕ) (after : State) (old out : List ℕ) (r : Result Answered CallFault) (is : after ≡ (step cat rule s (answer_into room)).state)
     (event : answer_event room out r ≡ (step cat rule s (answer_into room)).event) where
@@ -34,16 +33,19 @@ module _ (cat : Catalogue) (rule : Finding) (s : State) (room : ℕ) (after : St
   pub nak_leaves : NakLeaves r s after out
   nak_leaves = go r event
     where
-      by : (t : Telling) (v : Verdict) → told t.noise t.class t.id v (take t.length out) ≡ (step cat rule s (answer_into room)).event → NakedBy v s after t.class t.id (take t.length out)
-      by t Outside e = tt
-      by t Ack e = tt
-      by t (Nak x) e =
+      by : (n : ℕ) (t : Telling) (v : Verdict) → told n t.class t.id v (take t.length out) ≡ (step cat rule s (answer_into room)).event → NakedBy v s after t.class t.id (take t.length out)
+      by n t Outside e = tt
+      by n t Ack e = tt
+      by n t (Nak x) e =
           subst (λ (u : State). NakedBy (Nak x) s u t.class t.id (take t.length out)) (sym is)
-          (nak_keeps cat rule s (answer_into room) t.noise t.class t.id x (take t.length out) (sym e))
+          (nak_keeps cat rule s (answer_into room) n t.class t.id x (take t.length out) (sym e))
+
+      of_told : (n : ℕ) (o : Option Telling) → event_told n o (take (told_length o) out) ≡ (step cat rule s (answer_into room)).event → NakTold o s after out
+      of_told n None e = tt
+      of_told n (Some t) e = by n t t.verdict e
 
       go : (r : Result Answered CallFault) → answer_event room out r ≡ (step cat rule s (answer_into room)).event → NakLeaves r s after out
-      go (Ok (NothingWhole n)) e = tt
-      go (Ok (Told t)) e = by t t.verdict e
+      go (Ok a) e = of_told a.noise a.told e
       go (Err f) e = tt
 
   carried_all : (m : Message) (n : ℕ) (j : Result Plan Refusal) → AllOrNone cat s (carried_out cat (judged_in cat rule s m) n m j).state

@@ -88,7 +88,7 @@ verdict_id (Err r) = 0
 
 -- how the frame is told; a verdict's frame has 10 bytes
 abbrev pub told_by : HeldFrame → Result Granted Refusal → Telling
-told_by h r = record { noise = h.noise; class = h.class; id = h.id; verdict = verdict_of r; length = reply_length r + 10 }
+told_by h r = record { class = h.class; id = h.id; verdict = verdict_of r; length = reply_length r + 10 }
 
 -- the state that is left: a refusal cancels
 abbrev pub after_grant : List Entry → State → Granted → State

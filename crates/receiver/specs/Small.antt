@@ -1,11 +1,11 @@
 -- Small promises of an answering: a refused call changes nothing, a NAK is all that is written, all chosen layers change or none.
-use Rattle.std.specs.Prelude.{◌≡◌, ℕ, ◌⊎◌, List, take, Ok, Err, Result}
+use Rattle.std.specs.Prelude.{◌≡◌, ℕ, ◌⊎◌, List, take, Some, None, Ok, Err, Option, Result}
 use Rattle.reference.specs.declared.refusal.Verdict.{Verdict}
 use Rattle.reference.specs.declared.refusal.Verdict.TheVariants.{Outside, Ack, Nak}
 use Rattle.reference.specs.declared.fault.CallFault.{CallFault}
 use Rattle.reference.specs.declared.layers.Layers.{Layers}
 use Rattle.reference.specs.declared.answered.Answered.{Answered}
-use Rattle.reference.specs.declared.answered.Answered.TheVariants.{NothingWhole, Told}
+use Rattle.reference.specs.declared.answered.Telling.{Telling}
 use Rattle.reference.specs.Requests.{Catalogue, Changes}
 use Rattle.reference.specs.Receiver.{State, written_if}
 use Rattle.reference.specs.Promise.{SameLayers, NakOnly}
@@ -20,10 +20,13 @@ NakedBy Outside before after c i w = Unit {0}
 NakedBy Ack before after c i w = Unit {0}
 NakedBy (Nak r) before after c i w = NakOnly before after c i w
 
+abbrev pub NakTold : Option Telling → State → State → List ℕ → Type 0
+NakTold None before after out = Unit {0}
+NakTold (Some t) before after out = NakedBy t.verdict before after t.class t.id (take t.length out)
+
 -- a frame that gets a NAK leaves the layers as they were and no transaction open, and one NAK is all that is written
 abbrev pub NakLeaves : Result Answered CallFault → State → State → List ℕ → Type 0
-NakLeaves (Ok (NothingWhole n)) before after out = Unit {0}
-NakLeaves (Ok (Told t)) before after out = NakedBy t.verdict before after t.class t.id (take t.length out)
+NakLeaves (Ok a) before after out = NakTold a.told before after out
 NakLeaves (Err f) before after out = Unit {0}
 
 -- one change of the chosen layers

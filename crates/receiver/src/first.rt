@@ -42,10 +42,9 @@ impl HeldFrame {
 
     // How it is told.
     pub(crate) fn told(self, verdict: Verdict, length: usize) -> Telling
-        ensures { result ≡ record { noise = self.noise; class = self.class; id = self.id; verdict = verdict; length = length } }
+        ensures { result ≡ record { class = self.class; id = self.id; verdict = verdict; length = length } }
     {
         Telling {
-            noise: self.noise,
             class: self.class,
             id: self.id,
             verdict,

@@ -31,7 +31,7 @@ pub(crate) fn bench() -> Bench {
 
 // How the frame was told that an answering told.
 pub(crate) fn telling_of(answered: Answered) -> Result<Telling, Fail> {
-    let Answered::Told(telling) = answered else {
+    let Some(telling) = answered.told else {
         return Err(Fail::new("no frame is whole"));
     };
     Ok(telling)
@@ -39,10 +39,10 @@ pub(crate) fn telling_of(answered: Answered) -> Result<Telling, Fail> {
 
 // How much noise was dropped by an answering that found no whole frame.
 pub(crate) fn noise_of(answered: Answered) -> Result<usize, Fail> {
-    let Answered::NothingWhole(noise) = answered else {
+    if answered.told.is_some() {
         return Err(Fail::new("a frame was told"));
-    };
-    Ok(noise)
+    }
+    Ok(answered.noise)
 }
 
 // The receiver takes these bytes and answers them with those; answers the refusal's number, 0 where the frame is granted.

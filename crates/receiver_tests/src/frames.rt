@@ -43,8 +43,9 @@ fn a_value_out_of_range_is_refused(rt: HostRuntime) -> Result<(), Fail> {
     let mut receiver = bench();
     let mut out = [0u8; ANSWER_ROOM];
     assert_eq!(rt; receiver.take(&UNFIT)?, 17);
-    let telling = telling_of(receiver.answer(&mut out)?)?;
-    assert_eq!(rt; telling.noise, 0);
+    let answered = receiver.answer(&mut out)?;
+    assert_eq!(rt; answered.noise, 0);
+    let telling = telling_of(answered)?;
     assert_eq!(rt; telling.length, 10);
     assert!(rt; &out[0..10] == SET_NAK.as_slice());
     assert!(rt; &out[10..20] == [0; 10].as_slice());
@@ -86,7 +87,9 @@ fn a_frame_behind_noise_in_two_pieces(rt: HostRuntime) -> Result<(), Fail> {
     assert_eq!(rt; noise_of(receiver.answer(&mut out)?)?, 3);
     receiver.take(&SET[9..17])?;
     receiver.take(&[0xff])?;
-    assert_eq!(rt; telling_of(receiver.answer(&mut out)?)?.noise, 0);
+    let answered = receiver.answer(&mut out)?;
+    assert_eq!(rt; answered.noise, 0);
+    assert!(rt; answered.told.is_some());
     assert_eq!(rt; noise_of(receiver.answer(&mut out)?)?, 1);
     Ok(())
 }

@@ -1,5 +1,5 @@
 // Several frames, restarts, replays, and a receiver that is shut.
-use crate::bench::{ADDRESS, BBR, RAM, bench, bench_parts, send};
+use crate::bench::{ADDRESS, BBR, RAM, bench, bench_parts, noise_of, send};
 use catalogue::bench_catalogue;
 use layer::Absent;
 use receiver::{ANSWER_ROOM, Parts, Receiver};
@@ -80,10 +80,10 @@ fn a_log_has_an_event_for_each_call(rt: HostRuntime) -> Result<(), Fail> {
         return Err(Fail::new("a buffer that is too short was not refused"));
     };
     assert_eq!(rt; fault.number(), 9);
-    let Event::NothingWhole(noise) = done.log[2] else {
-        return Err(Fail::new("a frame was found in noise"));
+    let Event::Answered(answered, _) = &done.log[2] else {
+        return Err(Fail::new("an answering was not logged"));
     };
-    assert_eq!(rt; noise, 2);
+    assert_eq!(rt; noise_of(*answered)?, 2);
     assert_eq!(rt; done.receiver.look(RAM, ADDRESS)?, Some(65));
     Ok(())
 }

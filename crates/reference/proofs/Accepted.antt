@@ -7,25 +7,24 @@ use Rattle.catalogue.specs.declared.entries.CatalogueFault.{CatalogueFault}
 use Rattle.catalogue.specs.declared.entries.CatalogueFault.TheVariants.{EntryCount}
 use Rattle.catalogue.specs.Catalogues.{entries_checked, catalogue_checked}
 use Rattle.catalogue.proofs.Catalogues.{listed_from}
-use Rattle.reference.specs.declared.fault.PartsFault.TheVariants.{Catalogue as CatalogueRefused, BbrUnusable, StrayInBbr, StrayInFlash, DefaultsUnfit}
+use Rattle.reference.specs.declared.fault.PartsFault.TheVariants.{BbrUnusable, StrayInBbr, StrayInFlash, DefaultsUnfit}
 use Rattle.reference.specs.Stores.{Settings}
 use Rattle.reference.specs.Requests.{Catalogue, is_known}
 use Rattle.reference.specs.Parts.{Parts, catalogue_fault, stray_key, default_of, parts_fault}
-use Rattle.reference.proofs.Finding.{some≢none}
 use Rattle.reference.proofs.Settings.{KnownIn}
 use Rattle.reference.proofs.Stores.{SoundCatalogue}
 
 or_none_lem : {A : Type 0} (o r : Option A) → option_or o r ≡ None → (o ≡ None) × (r ≡ None)
 or_none_lem None r e = (refl, e)
-or_none_lem (Some x) r e = absurd (some≢none x e)
+or_none_lem (Some x) r e = cc
 
 cond_passed : {A : Type 0} (b : Bool) (x : A) → cond b None (Some x) ≡ None → b ≡ true
 cond_passed true x e = refl
-cond_passed false x e = absurd (some≢none x e)
+cond_passed false x e = cc
 
 mapped_none : {A B : Type 0} (f : A → B) (o : Option A) → option_map f o ≡ None → o ≡ None
 mapped_none f None e = refl
-mapped_none f (Some x) e = absurd (some≢none (f x) e)
+mapped_none f (Some x) e = cc
 
 -- a catalogue that the check accepts
 sound_from : (es : Catalogue) → catalogue_fault (catalogue_checked es) ≡ None → SoundCatalogue es
@@ -33,11 +32,11 @@ sound_from es e = go (leb 1 (length es) && leb (length es) 128) refl e
   where
     checked : (r : Result (Unit {0}) CatalogueFault) → catalogue_fault r ≡ None → r ≡ Ok tt
     checked (Ok tt) e = refl
-    checked (Err f) e = absurd (some≢none (CatalogueRefused f) e)
+    checked (Err f) e = cc
 
     go : (b : Bool) → (leb 1 (length es) && leb (length es) 128) ≡ b → catalogue_fault (cond b (entries_checked 0 0 es) (Err EntryCount)) ≡ None → SoundCatalogue es
     go true is e = record { at_most = leb-true (length es) 128 (and_parts (leb 1 (length es)) (leb (length es) 128) is).1; listed = listed_from 0 0 es (checked (entries_checked 0 0 es) e) }
-    go false is e = absurd (some≢none (CatalogueRefused EntryCount) e)
+    go false is e = cc
 
 no_strays : (cat : Catalogue) (ss : Settings) → stray_key cat ss ≡ None → AllByRecursion (KnownIn cat) ss
 unfolding stray_key
@@ -46,7 +45,7 @@ no_strays cat (s ∷ ss) e = go (is_known cat s.key) refl e (no_strays cat ss)
   where
     go : (b : Bool) → is_known cat s.key ≡ b → cond b (stray_key cat ss) (Some s.key) ≡ None → (stray_key cat ss ≡ None → AllByRecursion (KnownIn cat) ss) → AllByRecursion (KnownIn cat) (s ∷ ss)
     go true is e ih = (is, ih e)
-    go false is e ih = absurd (some≢none _ e)
+    go false is e ih = cc
 
 pub record Accepted (p : Parts) : Type 0 where
   pub sound : SoundCatalogue p.catalogue

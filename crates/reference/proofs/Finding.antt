@@ -60,9 +60,6 @@ module _ (at : ℕ) (bs more : List ℕ) where
       → scan_from at 0 (bs ++ more) ≡ both (so_far [] (finding bs).skipped) (scan_from (at + (finding bs).skipped + 0) 0 ((finding bs).rest ++ more))
   none_heard e = finds_as None e
 
-pub some≢none : {A : Type 0} (a : A) → Some a ≡ None → ⊥
-some≢none a e = let z : ◌≡◌ {A = ℕ} 0 1 = cc in omega arith
-
 -- Where an answering found no frame, nothing is decided in what it left
 
 abbrev Quiet : ℕ → Finding → Type 0
@@ -76,13 +73,13 @@ quiet_rest at (x ∷ xs) = go (standing (x ∷ xs)) refl (quiet_rest at xs)
     go : (p : Standing) → standing (x ∷ xs) ≡ p → Quiet at (finding xs) → Quiet at (finding_at p (x ∷ xs) (λ _. finding xs))
     go noise e ih = ih
     go undecided e ih = λ _. scan_undecided at (x ∷ xs) e
-    go (intact m) e ih = λ n. absurd (some≢none m n)
+    go (intact m) e ih = λ n. cc
 
 -- and where it found one, something is
 pub found_loud : (at : ℕ) (bs : List ℕ) (m : Message) → (finding bs).message ≡ Some m → scan_from at 0 bs ≡ waiting at bs → ⊥
 found_loud at bs m e q =
     let h : [] ≡ _ ∷ _ = ap (λ (s : Scanned). s.heard) (sym q ∙ ap (scan_from at 0) (sym (append-nil bs)) ∙ found_heard at bs [] m e) in
-    let z : ◌≡◌ {A = ℕ} 0 1 = cc in omega arith
+    cc
 
 -- what was found, then more, then the rest
 pub both_more : (xs ys : List Hearing) (i j : ℕ) (s : Scanned) → both (so_far xs i) (both (so_far ys j) s) ≡ both (so_far (xs ++ ys) (i + j)) s

@@ -14,7 +14,6 @@ use Rattle.reference.specs.Parts.{Parts, stacked}
 use Rattle.reference.specs.Events.{Event, restarted, History}
 use Rattle.reference.specs.Receiver.{State, Transaction, written, written_if, configuration, after_battery, tell}
 use Rattle.reference.specs.Law.{granted, next_told, queued, queued_by, change_by, change, after_change, is_loss, is_restart, in_ram, in_bbr, in_flash, bbr_back, flash_back, ram_back}
-use Rattle.reference.proofs.Finding.{some≢none}
 use Rattle.reference.proofs.Hearing.{Tracked}
 use Rattle.reference.proofs.Judging.{is_change}
 use Rattle.reference.proofs.Stores.{SoundCatalogue, Tidy, GoodChanges, Holding, written_holds, good_fits, good_known, good_some}
@@ -178,7 +177,7 @@ module _ (p : Parts) (ok : Accepted p) (s : State) (h : History) (i : Invariant 
           flash_tidy = fl.0;
           flash_holds = λ j. fl.1 j ∙ ap (λ g. after_change in_flash g j (flash_back p h j)) (sym c);
           is_fit_lem = fit_after p sound set d good l.ram s.ram is_set i.ram.tidy i.ram.usable i.is_fit_lem no_fault;
-          ties = λ t no_one. absurd (some≢none t (sym no_one));
+          ties = λ t no_one. cc;
         }
 
   -- A restart
@@ -224,5 +223,5 @@ module _ (p : Parts) (ok : Accepted p) (s : State) (h : History) (i : Invariant 
                 full = stacked_full p.catalogue p.rule ok.sound ok.defaults_fit _ _;
                 fit = stacked_fit p.catalogue p.rule ok.sound ok.defaults_fit _ _ s.ram.usable;
               };
-          ties = λ t no_one. absurd (some≢none t (sym no_one));
+          ties = λ t no_one. cc;
         }

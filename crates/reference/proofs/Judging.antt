@@ -1,6 +1,6 @@
 -- What a granted frame shows: the way back from the plan to the payload.
 use Rattle.std.proofs.Common.{◌≡◌, ℕ, zero, suc, ◌≤◌, Bool, true, false, cond, not, ◌&&◌, ◌||◌, eqb, ◌⊎◌, List, Some, None, Ok, Err, Option, Result, sym, refl, ap, ◌∙◌, ap₂, inl, inr, arith}
-use Rattle.std.proofs.lemmas.Bool.{eqb-true, le-leb, true≢false, not-false}
+use Rattle.std.proofs.lemmas.Bool.{eqb-true, le-leb, not-false}
 use Rattle.frame.specs.Frames.{Message, frame_bytes}
 use Rattle.reference.specs.Stores.{Settings}
 use Rattle.rule.specs.Rules.{Finding}
@@ -10,13 +10,18 @@ use Rattle.reference.specs.Requests.{Catalogue, valset, valget, valdel, layers_o
 use Rattle.reference.specs.Receiver.{State, Transaction, Plan, apply, queue, reply, unless, and_then, apply_fault, applying, is_none, queue_of, planned, judged_change, page, paged, judged_get, judged}
 use Rattle.reference.specs.Law.{own_data, or_none, by_action, queued_by, change_by, Granted}
 
-pub err≢ok : {A : Type 0} (r : Refusal) (a : A) → ◌≡◌ {A = Result A Refusal} (Err r) (Ok a) → ⊥
-err≢ok r a e = let z : ◌≡◌ {A = ℕ} 0 1 = cc in omega arith
-
 unless_ok : {A : Type 0} (b : Bool) (x : Refusal) (r : Result A Refusal) (a : A) → unless b x r ≡ Ok a → (b ≡ false) × (r ≡ Ok a)
 unfolding unless
-unless_ok true x r a e = absurd (err≢ok _ a e)
+unless_ok true x r a e = cc
 unless_ok false x r a e = (refl, e)
+
+and_then_ok : {A B : Type 0} (r : Result A Refusal) (f : A → Result B Refusal) (b : B) → and_then r f ≡ Ok b → (a : A) × (r ≡ Ok a) × (f a ≡ Ok b)
+and_then_ok (Ok a) f b e = (a, refl, e)
+and_then_ok (Err x) f b e = cc
+
+only_applies : (o : Option ℕ) (l : Layers) (d : Changes) (p : Plan) → applying o l d ≡ Ok p → apply l d ≡ p
+only_applies None l d p e = cc
+only_applies (Some i) l d p e = cc
 
 -- VALSET or VALDEL
 abbrev pub is_change : ℕ → Bool
@@ -24,20 +29,20 @@ is_change id = eqb id valset || eqb id valdel
 
 but_not : (a b : Bool) → (a && not b) ≡ false → a ≡ true → b ≡ true
 but_not true b e t = not-false b e
-but_not false b e t = absurd (true≢false (sym t))
+but_not false b e t = cc
 
 and_second : (a b : Bool) → (a && b) ≡ false → a ≡ true → b ≡ false
 and_second true b e t = e
-and_second false b e t = absurd (true≢false (sym t))
+and_second false b e t = cc
 
 one_of_three : (a b c : Bool) → not (a || (b || c)) ≡ false → b ≡ false → (a || c) ≡ true
 one_of_three true b c e n = refl
-one_of_three false true c e n = absurd (true≢false n)
+one_of_three false true c e n = cc
 one_of_three false false c e n = not-false c e
 
 -- an action 2 or 3 has a transaction open
 open_from : (o : Option Transaction) → is_none o ≡ false → (t : Transaction) × (o ≡ Some t)
-open_from None e = absurd (true≢false e)
+open_from None e = cc
 open_from (Some t) e = (t, refl)
 
 module _ (cat : Catalogue) (rule : Finding) (s : State) (m : Message) where
@@ -81,12 +86,11 @@ module _ (cat : Catalogue) (rule : Finding) (s : State) (m : Message) where
         }
 
     page_shows : (o : Option Settings) → paged cat o m.payload ≡ Ok plan → (ss : Settings) × (ks : List ℕ) × (plan ≡ reply (frame_bytes (page ss m.payload ks)))
-    page_shows None e = absurd (err≢ok _ plan e)
-    page_shows (Some ss) e = go (keys_of cat m.payload) e
-      where
-        go : (r : Result (List ℕ) Refusal) → and_then r (λ ks. Ok (reply (frame_bytes (page ss m.payload ks)))) ≡ Ok plan → (ss : Settings) × (ks : List ℕ) × (plan ≡ reply (frame_bytes (page ss m.payload ks)))
-        go (Ok ks) e = (ss, ks, cc)
-        go (Err r) e = absurd (err≢ok r plan e)
+    page_shows None e = cc
+    page_shows (Some ss) e =
+        let k = and_then_ok (keys_of cat m.payload) _ plan e in
+        let is = k.2 in
+        (ss, k.0, cc)
 
     get_shows : m.id ≡ valget → judged_get cat s m ≡ Ok plan → GrantedGet plan
     unfolding judged_get
@@ -129,7 +133,7 @@ module _ (cat : Catalogue) (rule : Finding) (s : State) (m : Message) where
         let same-l : l ≡ l' = cc in
         let same-d : d ≡ d' = cc in
         (same-l, same-d, ap₂ (apply_fault cat rule s) (sym same-l) (sym same-d) ∙ e)
-    applying_ok (Some i) l l' d d' e a = absurd (err≢ok _ (apply l' d') a)
+    applying_ok (Some i) l l' d d' e a = cc
 
     -- what looking back reads off a frame of action a
     abbrev change_at : ℕ → Option Granted
@@ -138,16 +142,8 @@ module _ (cat : Catalogue) (rule : Finding) (s : State) (m : Message) where
     abbrev queue_at : ℕ → Changes
     queue_at a = by_action a q (own_data cat m) (and_later q (own_data cat m)) q
 
-    queue≢apply : (t : Transaction) (l : Layers) (d : Changes) → ◌≡◌ {A = Result Plan Refusal} (Ok (queue t)) (Ok (apply l d)) → ⊥
-    queue≢apply t l d e = let z : ◌≡◌ {A = ℕ} 0 1 = cc in omega arith
-
     some_granted : (l l' : Layers) (d d' : Changes) → l ≡ l' → d ≡ d' → ◌≡◌ {A = Option Granted} (Some (record { layers = l; named = d })) (Some (record { layers = l'; named = d' }))
     some_granted l l' d d' e e' = ap₂ (λ (x : Layers) (y : Changes). Some (record { layers = x; named = y })) e e'
-
-    -- data that are read and then queued are not applied
-    queued_only : (r : Result Data Refusal) (k : Data → Transaction) (l : Layers) (d : Changes) → and_then r (λ d. Ok (queue (k d))) ≡ Ok (apply l d) → ⊥
-    queued_only (Ok d') k l d e = queue≢apply (k d') l d e
-    queued_only (Err x) k l d e = err≢ok x (apply l d) e
 
     AppliesAt : ℕ → Layers → Changes → Type 0
     AppliesAt a l d =
@@ -156,15 +152,12 @@ module _ (cat : Catalogue) (rule : Finding) (s : State) (m : Message) where
 
     applies_at : (a : ℕ) (l : Layers) (d : Changes) → (2 ≤ a → (t : Transaction) × (s.transaction ≡ Some t)) → planned cat rule s m chosen a ≡ Ok (apply l d) → AppliesAt a l d
     unfolding AppliesAt
-    applies_at zero l d is_open e = go (data_of cat m.id m.payload) refl e
-      where
-        go : (r : Result Data Refusal) → data_of cat m.id m.payload ≡ r → and_then r (λ d'. applying (apply_fault cat rule s chosen (latest d')) chosen (latest d')) ≡ Ok (apply l d) → AppliesAt 0 l d
-        go (Ok d') r a =
-            let k = applying_ok (apply_fault cat rule s chosen (latest d')) chosen l (latest d') d refl a in
-            (sym k.0, some_granted chosen l (own_data cat m) d k.0 (ap (λ x. latest (or_none x)) r ∙ k.1), k.2, inl (d', r, k.1))
-        go (Err x) r a = absurd (err≢ok x (apply l d) a)
-    applies_at (suc zero) l d is_open e = absurd (queued_only _ _ l d e)
-    applies_at (suc (suc zero)) l d is_open e = absurd (queued_only _ _ l d e)
+    applies_at zero l d is_open e =
+        let x = and_then_ok (data_of cat m.id m.payload) _ (apply l d) e in
+        let k = applying_ok (apply_fault cat rule s chosen (latest x.0)) chosen l (latest x.0) d refl x.2 in
+        (sym k.0, some_granted chosen l (own_data cat m) d k.0 (ap (λ r. latest (or_none r)) x.1 ∙ k.1), k.2, inl (x.0, x.1, k.1))
+    applies_at (suc zero) l d is_open e = let x = and_then_ok (data_of cat m.id m.payload) _ (apply l d) e in let no = x.2 in cc
+    applies_at (suc (suc zero)) l d is_open e = let x = and_then_ok (data_of cat m.id m.payload) _ (apply l d) e in let no = x.2 in cc
     applies_at (suc (suc (suc n))) l d is_open e =
         let o = is_open (omega arith) in
         let same : queue_of s.transaction ≡ q = ap queue_of o.1 ∙ ties o.0 o.1 in
@@ -179,48 +172,36 @@ module _ (cat : Catalogue) (rule : Finding) (s : State) (m : Message) where
 
     -- what is queued
 
-    applying≢queue : (o : Option ℕ) (l : Layers) (d : Changes) (t : Transaction) → applying o l d ≡ Ok (queue t) → ⊥
-    applying≢queue None l d t e = let z : ◌≡◌ {A = ℕ} 0 1 = cc in omega arith
-    applying≢queue (Some i) l d t e = err≢ok _ (queue t) e
-
-    -- data that are read and then applied are not queued
-    applied_only : (r : Result Data Refusal) (k : Data → Option ℕ) (l : Layers) (t : Transaction) → and_then r (λ d. applying (k d) l (latest d)) ≡ Ok (queue t) → ⊥
-    applied_only (Ok d) k l t e = applying≢queue (k d) l (latest d) t e
-    applied_only (Err x) k l t e = err≢ok x (queue t) e
-
     QueuesAt : ℕ → Transaction → Type 0
     QueuesAt a t =
         (t.kind ≡ m.id) × (change_at a ≡ None) × (queue_at a ≡ t.queue)
         × ((own : Data) × (data_of cat m.id m.payload ≡ Ok own) × ((t.queue ≡ latest own) ⊎ ((u : Transaction) × (s.transaction ≡ Some u) × (t.queue ≡ and_later u.queue (latest own)))))
 
-    same_queue : (t u : Transaction) → ◌≡◌ {A = Result Plan Refusal} (Ok (queue t)) (Ok (queue u)) → t ≡ u
-    same_queue t u e = cc
-
     queues_at : (a : ℕ) (t : Transaction) → (2 ≤ a → (u : Transaction) × (s.transaction ≡ Some u)) → planned cat rule s m chosen a ≡ Ok (queue t) → QueuesAt a t
     unfolding QueuesAt
-    queues_at zero t is_open e = absurd (applied_only (data_of cat m.id m.payload) (λ d. apply_fault cat rule s chosen (latest d)) chosen t e)
-    queues_at (suc zero) t is_open e = go (data_of cat m.id m.payload) refl e
-      where
-        go : (r : Result Data Refusal) → data_of cat m.id m.payload ≡ r → and_then r (λ d. Ok (queue (record { kind = m.id; layers = chosen; queue = latest d }))) ≡ Ok (queue t) → QueuesAt 1 t
-        go (Ok d) r e =
-            let k = same_queue _ t e in
-            (sym (ap (λ (t : Transaction). t.kind) k), refl, ap (λ x. latest (or_none x)) r ∙ ap (λ (t : Transaction). t.queue) k, (d, r, inl (sym (ap (λ (t : Transaction). t.queue) k))))
-        go (Err x) r e = absurd (err≢ok x (queue t) e)
-    queues_at (suc (suc zero)) t is_open e = go (data_of cat m.id m.payload) refl e
-      where
-        go : (r : Result Data Refusal) → data_of cat m.id m.payload ≡ r → and_then r (λ d. Ok (queue (record { kind = m.id; layers = chosen; queue = and_later (queue_of s.transaction) (latest d) }))) ≡ Ok (queue t) → QueuesAt 2 t
-        go (Ok d) r e =
-            let k = same_queue _ t e in
-            let o = is_open (omega arith) in
-            let same : queue_of s.transaction ≡ q = ap queue_of o.1 ∙ ties o.0 o.1 in
-            let is : and_later (queue_of s.transaction) (latest d) ≡ t.queue = ap (λ (t : Transaction). t.queue) k in (
-              sym (ap (λ (t : Transaction). t.kind) k),
-              refl,
-              ap₂ and_later (sym same) (ap (λ x. latest (or_none x)) r) ∙ is,
-              (d, r, inr (o.0, o.1, sym is ∙ ap (λ (x : Changes). and_later x (latest d)) (ap queue_of o.1))),
-            )
-        go (Err x) r e = absurd (err≢ok x (queue t) e)
-    queues_at (suc (suc (suc n))) t is_open e = absurd (applying≢queue _ _ _ t e)
+    queues_at zero t is_open e =
+        let x = and_then_ok (data_of cat m.id m.payload) _ (queue t) e in
+        let no = only_applies _ _ _ (queue t) x.2 in
+        cc
+    queues_at (suc zero) t is_open e =
+        let x = and_then_ok (data_of cat m.id m.payload) _ (queue t) e in
+        let read_is = x.2 in
+        let k : record { kind = m.id; layers = chosen; queue = latest x.0 } ≡ t = cc in
+        let is : latest x.0 ≡ t.queue = ap (λ (t : Transaction). t.queue) k in
+        (sym (ap (λ (t : Transaction). t.kind) k), refl, ap (λ r. latest (or_none r)) x.1 ∙ is, (x.0, x.1, inl (sym is)))
+    queues_at (suc (suc zero)) t is_open e =
+        let x = and_then_ok (data_of cat m.id m.payload) _ (queue t) e in
+        let read_is = x.2 in
+        let k : record { kind = m.id; layers = chosen; queue = and_later (queue_of s.transaction) (latest x.0) } ≡ t = cc in
+        let o = is_open (omega arith) in
+        let same : queue_of s.transaction ≡ q = ap queue_of o.1 ∙ ties o.0 o.1 in
+        let is : and_later (queue_of s.transaction) (latest x.0) ≡ t.queue = ap (λ (t : Transaction). t.queue) k in (
+          sym (ap (λ (t : Transaction). t.kind) k),
+          refl,
+          ap₂ and_later (sym same) (ap (λ r. latest (or_none r)) x.1) ∙ is,
+          (x.0, x.1, inr (o.0, o.1, sym is ∙ ap (λ (y : Changes). and_later y (latest x.0)) (ap queue_of o.1))),
+        )
+    queues_at (suc (suc (suc n))) t is_open e = let no = only_applies _ _ _ (queue t) e in cc
 
     pub queues : (t : Transaction) → GrantedChange (queue t) → Queues q t
     unfolding QueuesAt
@@ -229,23 +210,14 @@ module _ (cat : Catalogue) (rule : Finding) (s : State) (m : Message) where
         record { kind_is = a.0; no_change_lem = a.1; queued_is = a.2; own = a.3.0; own_is = a.3.1; data_is = a.3.2 }
 
   -- a change writes no reply
-  queueing≢reply : (r : Result Data Refusal) (k : Data → Transaction) (bs : List ℕ) → and_then r (λ d. Ok (queue (k d))) ≡ Ok (reply bs) → ⊥
-  queueing≢reply (Ok d) k bs e = let z : ◌≡◌ {A = ℕ} 0 1 = cc in omega arith
-  queueing≢reply (Err x) k bs e = err≢ok x (reply bs) e
-
-  applying≢reply : (o : Option ℕ) (l : Layers) (d : Changes) (bs : List ℕ) → applying o l d ≡ Ok (reply bs) → ⊥
-  applying≢reply None l d bs e = let z : ◌≡◌ {A = ℕ} 0 1 = cc in omega arith
-  applying≢reply (Some i) l d bs e = err≢ok _ (reply bs) e
-
   no_reply_at : (a : ℕ) (bs : List ℕ) → planned cat rule s m chosen a ≡ Ok (reply bs) → ⊥
-  no_reply_at zero bs e = go (data_of cat m.id m.payload) e
-    where
-      go : (r : Result Data Refusal) → and_then r (λ d. applying (apply_fault cat rule s chosen (latest d)) chosen (latest d)) ≡ Ok (reply bs) → ⊥
-      go (Ok d) e = applying≢reply _ _ _ bs e
-      go (Err x) e = err≢ok x (reply bs) e
-  no_reply_at (suc zero) bs e = queueing≢reply (data_of cat m.id m.payload) _ bs e
-  no_reply_at (suc (suc zero)) bs e = queueing≢reply (data_of cat m.id m.payload) _ bs e
-  no_reply_at (suc (suc (suc n))) bs e = applying≢reply _ _ _ bs e
+  no_reply_at zero bs e =
+      let x = and_then_ok (data_of cat m.id m.payload) _ (reply bs) e in
+      let no = only_applies _ _ _ (reply bs) x.2 in
+      cc
+  no_reply_at (suc zero) bs e = let x = and_then_ok (data_of cat m.id m.payload) _ (reply bs) e in let no = x.2 in cc
+  no_reply_at (suc (suc zero)) bs e = let x = and_then_ok (data_of cat m.id m.payload) _ (reply bs) e in let no = x.2 in cc
+  no_reply_at (suc (suc (suc n))) bs e = let no = only_applies _ _ _ (reply bs) e in cc
 
   pub change_no_reply : (bs : List ℕ) → GrantedChange (reply bs) → ⊥
   change_no_reply bs g = no_reply_at action bs g.plan_is

@@ -1,8 +1,8 @@
 -- Data that are read name keys of the catalogue, with values that fit.
-use Rattle.std.proofs.Common.{◌≡◌, ℕ, zero, suc, ◌+◌, ◌%◌, ◌<◌, ◌≤◌, Bool, true, false, cond, eqb, ltb, leb, List, [], ◌∷◌, ◌++◌, map, length, take, drop, Some, None, Ok, Err, Option, Result, sym, refl, subst, mod-lt, arith}
+use Rattle.std.proofs.Common.{◌≡◌, ℕ, zero, suc, ◌+◌, ◌%◌, ◌<◌, ◌≤◌, Bool, true, false, cond, eqb, ltb, leb, List, [], ◌∷◌, ◌++◌, map, length, take, drop, Some, None, Ok, Err, Option, Result, refl, subst, mod-lt, arith}
 use Rattle.std.specs.List.{AllByRecursion}
 use Rattle.std.proofs.ByRecursion.{All-append, All-map, All-weaker}
-use Rattle.std.proofs.lemmas.Bool.{cond_both, leb-true, lt-ltb, and_parts, eq-eqb, or_left, or_right, false≢true}
+use Rattle.std.proofs.lemmas.Bool.{cond_both, leb-true, lt-ltb, and_parts}
 use Rattle.item.specs.declared.key.Size.{Size}
 use Rattle.item.specs.declared.key.Size.TheVariants.{Bit, One, Two, Four, Eight}
 use Rattle.item.specs.declared.selector.Selector.{Selector}
@@ -11,8 +11,7 @@ use Rattle.item.specs.Selectors.{selector_of, names}
 use Rattle.item.specs.Values.{number}
 use Rattle.reference.specs.declared.refusal.Refusal.{Refusal}
 use Rattle.reference.specs.Requests.{Catalogue, is_known, keys_named, valset, Data, latest, Read, cut, unknown, read, bytes_at, limit_at, pair_read, named_read, key_read, deleted, read_map, deletion_read, ok_map, walking, walk, data_of}
-use Rattle.reference.proofs.Finding.{some≢none}
-use Rattle.reference.proofs.Settings.{known_formed}
+use Rattle.reference.proofs.Settings.{known_first, known_behind, known_formed}
 use Rattle.reference.proofs.Stores.{SoundCatalogue, Good, GoodChanges, latest_good}
 
 -- P of what one entry names
@@ -67,7 +66,7 @@ formed_sized k w =
     sized (size_bits k) (leb-true 1 (size_bits k) a.0) (leb-true (size_bits k) 5 b.0)
 
 read_fits_lem : (o : Option Size) (s : Size) (n : ℕ) → o ≡ Some s → fits_size o (n % limit_at o) ≡ true
-read_fits_lem None s n e = absurd (some≢none s (sym e))
+read_fits_lem None s n e = cc
 read_fits_lem (Some t) s n e = lt-ltb _ _ (mod-lt n (limit_some t))
 
 module _ (cat : Catalogue) (sound : SoundCatalogue cat) where
@@ -97,11 +96,11 @@ module _ (cat : Catalogue) (sound : SoundCatalogue cat) where
   unfolding keys_named is_known
   named_known s [] = tt
   named_known s (e ∷ es) =
-      let rest = All-weaker (λ k. is_known es k ≡ true) (λ k. is_known (e ∷ es) k ≡ true) (λ k is. or_right _ _ is) (keys_named s es) (named_known s es) in
-      cond_both (names s e.key) _ _ (AllByRecursion (λ k. is_known (e ∷ es) k ≡ true)) (λ _. (or_left _ _ (eq-eqb e.key e.key refl), rest)) (λ _. rest)
+      let rest = All-weaker (λ k. is_known es k ≡ true) (λ k. is_known (e ∷ es) k ≡ true) (known_behind e es) (keys_named s es) (named_known s es) in
+      cond_both (names s e.key) _ _ (AllByRecursion (λ k. is_known (e ∷ es) k ≡ true)) (λ _. (known_first e es, rest)) (λ _. rest)
 
   deleted_good : (k : ℕ) → is_known cat k ≡ true → Good cat false (deleted k)
-  deleted_good k is = record { known = is; fit = λ v e. absurd (some≢none v (sym e)); some = λ e. absurd (false≢true e) }
+  deleted_good k is = record { known = is; fit = λ v e. cc; some = λ e. cc }
 
   deletion_good : (bs : List ℕ) → ReadAll (Good cat false) (deletion_read cat bs)
   unfolding key_read

@@ -2,7 +2,8 @@
 use Rattle.std.proofs.Common.{◌≡◌, ℕ, Bool, true, false, cond, ◌&&◌, eqb, List, [], ◌∷◌, Some, None, Ok, Err, Option, Result, sym, refl, ap, ◌∙◌, subst, ap₂, ⊎_elim, arith}
 use mathlib.Core.Path.{fun_ext}
 use Rattle.std.specs.List.{AllByRecursion}
-use Rattle.std.proofs.lemmas.Bool.{eqb-true, ne_eqb, and_parts, cond_both, true≢false}
+use Rattle.std.proofs.lemmas.Bool.{eqb-true, ne_eqb, and_parts, cond_both}
+use Rattle.std.proofs.lemmas.Option.{cond_some}
 use Rattle.frame.specs.Frames.{Message}
 use Rattle.frame.specs.Scanning.{finding}
 use Rattle.frame.proofs.Scanning.{none_swallowed}
@@ -22,7 +23,6 @@ use Rattle.reference.specs.Receiver.{State, Transaction, Plan, apply, queue, rep
 use Rattle.reference.specs.Law.{granted, is_loss, is_restart, queued, bbr_back, flash_back, ram_back, ToldAsHeard, Throughout, OneVerdict, layer_back, ShownAsFound}
 use Rattle.reference.specs.Noise.{NoiseIsTold, NoiseCounted}
 use Rattle.reference.specs.Promise.{LawAfter, LawOf, LawHolds}
-use Rattle.reference.proofs.Finding.{some≢none}
 use Rattle.reference.proofs.Hearing.{Tracked, tracked_made, tracked_took, tracked_nothing, tracked_told, tracked_looked, tracked_refused, tracked_restarted, in_order, all_told, noise_told_lem, next_is}
 use Rattle.reference.proofs.Judging.{GrantedChange, judged_shows, change_no_reply, applies, queues}
 use Rattle.reference.proofs.Verdicts.{step_once}
@@ -36,12 +36,10 @@ use Rattle.reference.proofs.Invariant.{Invariant, granted_is, get_grants_none, n
 
 -- the transaction that a frame finds open is the one that was open, and of its kind
 of_kind_lem : (id : ℕ) (o : Option Transaction) (t : Transaction) → of_kind id o ≡ Some t → (o ≡ Some t) × (t.kind ≡ id)
-of_kind_lem id None t e = absurd (some≢none t (sym e))
-of_kind_lem id (Some u) t e = go (eqb u.kind id) refl e
-  where
-    go : (b : Bool) → eqb u.kind id ≡ b → cond b (Some u) None ≡ Some t → (Some u ≡ Some t) × (t.kind ≡ id)
-    go true is e = let q : u ≡ t = cc in (e, ap (λ (t : Transaction). t.kind) (sym q) ∙ eqb-true u.kind id is)
-    go false is e = absurd (some≢none t (sym e))
+of_kind_lem id None t e = cc
+of_kind_lem id (Some u) t e =
+    let k = cond_some (eqb u.kind id) u t e in
+    (ap Some k.1, ap (λ (t : Transaction). t.kind) (sym k.1) ∙ eqb-true u.kind id k.0)
 
 -- a delete is not for RAM
 ram_is_set : (id : ℕ) (p : List ℕ) → (layers_of id p).ram ≡ true → eqb id valset ≡ true
@@ -66,12 +64,6 @@ module _ (p : Parts) (ok : Accepted p) (s : State) (h : History) (i : Invariant 
     tied_good t e =
         let k = of_kind_lem m.id s.transaction t e in
         subst (λ n. GoodChanges p.catalogue (eqb n valset) t.queue) k.1 (i.ties t k.0).good
-
-    apply≢reply : (l : Layers) (d : Changes) (bs : List ℕ) → apply l d ≡ reply bs → ⊥
-    apply≢reply l d bs e = let z : ◌≡◌ {A = ℕ} 0 1 = cc in omega arith
-
-    queue≢reply : (t : Transaction) (bs : List ℕ) → queue t ≡ reply bs → ⊥
-    queue≢reply t bs e = let z : ◌≡◌ {A = ℕ} 0 1 = cc in omega arith
 
     -- the noise before it
     abbrev before : ℕ
@@ -115,11 +107,11 @@ module _ (p : Parts) (ok : Accepted p) (s : State) (h : History) (i : Invariant 
 
     config_keeps : (r : Result Plan Refusal) → judged p.catalogue p.rule s' m ≡ r → After (carried_out p.catalogue s' before m r)
     unfolding granted is_loss is_restart
-    config_keeps (Err x) e = nothing_granted p ok s h i _ refl refl refl (finding s.held_bytes).rest None (told_tracked _ _) (λ t no_one. absurd (some≢none t (sym no_one)))
+    config_keeps (Err x) e = nothing_granted p ok s h i _ refl refl refl (finding s.held_bytes).rest None (told_tracked _ _) (λ t no_one. cc)
     config_keeps (Ok (apply l d)) e =
-        ⊎_elim (λ g. absurd (apply≢reply l d _ g.plan_is)) (λ g. apply_keeps _ l d g) (judged_shows p.catalogue p.rule s' m (apply l d) e)
+        ⊎_elim (λ g. cc) (λ g. apply_keeps _ l d g) (judged_shows p.catalogue p.rule s' m (apply l d) e)
     config_keeps (Ok (queue t)) e =
-        ⊎_elim (λ g. absurd (queue≢reply t _ g.plan_is)) (λ g. queue_keeps _ t g) (judged_shows p.catalogue p.rule s' m (queue t) e)
+        ⊎_elim (λ g. cc) (λ g. queue_keeps _ t g) (judged_shows p.catalogue p.rule s' m (queue t) e)
     config_keeps (Ok (reply bs)) e =
         ⊎_elim
         (λ g. get_keeps _ g.is_get)
@@ -143,7 +135,7 @@ module _ (p : Parts) (ok : Accepted p) (s : State) (h : History) (i : Invariant 
 
   pub step_keeps : (c : Asking) → After (step p.catalogue p.rule s c)
   unfolding step
-  step_keeps c = cond_both s.shut _ _ After (λ on. absurd (true≢false (sym on ∙ i.serves))) (λ off. served_keeps c)
+  step_keeps c = cond_both s.shut _ _ After (λ on. let off = i.serves in cc) (λ off. served_keeps c)
 
   -- What looking and restarting answer
 
@@ -164,10 +156,10 @@ module _ (p : Parts) (ok : Accepted p) (s : State) (h : History) (i : Invariant 
       go true b c d u x e = is _ e ∙ i.ram.holds k
       go false true c d u x e = is _ e ∙ i.bbr.holds k
       go false false true d true x e = is _ e ∙ i.flash_holds k
-      go false false true true false x e = absurd (true≢false (x refl))
-      go false false true false false x e = absurd (some≢none ss (sym e))
+      go false false true true false x e = let off = x refl in cc
+      go false false true false false x e = cc
       go false false false true u x e = is _ e
-      go false false false false u x e = absurd (some≢none ss (sym e))
+      go false false false false u x e = cc
 
   carried_shows : (s' : State) (n : ℕ) (m : Message) (r : Result Plan Refusal) → Shown (carried_out p.catalogue s' n m r)
   unfolding ShownAsFound
@@ -217,7 +209,7 @@ open_keeps p ok bbr flash =
             full = stacked_full p.catalogue p.rule ok.sound ok.defaults_fit _ _;
             fit = stacked_fit p.catalogue p.rule ok.sound ok.defaults_fit _ _ true;
           };
-      ties = λ t no_one. absurd (some≢none t (sym no_one));
+      ties = λ t no_one. cc;
     }
 
 made_keeps : (p : Parts) → parts_fault p ≡ None → Accepted p → IsStore p.bbr → IsStore p.flash → Invariant p (made p) []

@@ -1,7 +1,7 @@
 -- What putting and removing leave under each key, and how many settings ascending keys of a catalogue can be.
-use Rattle.std.proofs.Common.{◌≡◌, ℕ, suc, ◌<◌, ◌≤◌, Bool, true, false, cond, ◌||◌, eqb, ltb, [], ◌∷◌, length, Some, None, sym, refl, subst, arith}
+use Rattle.std.proofs.Common.{◌≡◌, ℕ, ◌<◌, ◌≤◌, Bool, true, false, cond, eqb, ltb, ◌⊎◌, [], ◌∷◌, length, Some, None, sym, refl, subst, inl, inr, ⊎_elim, arith}
 use Rattle.std.specs.List.{AllByRecursion}
-use Rattle.std.proofs.lemmas.Bool.{eqb-true, eqb-false, ne_eqb, cond_both, false≢true}
+use Rattle.std.proofs.lemmas.Bool.{eqb-true, eqb-false, eq-eqb, cond_both, or_left, or_right, or_cases}
 use Rattle.std.proofs.lemmas.Bool.Decides.{nat_tests}
 use Rattle.item.specs.Keys.{well_formed}
 use Rattle.layer.specs.declared.setting.Setting.{Setting}
@@ -47,24 +47,29 @@ pub all_without : (P : Setting → Type 0) (k : ℕ) (ss : Settings) → AllByRe
 all_without P k [] h = tt
 all_without P k (s ∷ ss) h = cond_both (eqb s.key k) _ _ (AllByRecursion P) (λ same. all_without P k ss h.1) (λ other. (h.0, all_without P k ss h.1))
 
+-- the first entry's key is known, and so are those of the entries behind it
+pub known_first : (x : Entry) (es : Catalogue) → is_known (x ∷ es) x.key ≡ true
+unfolding is_known
+known_first x es = or_left _ _ (eq-eqb x.key x.key refl)
+
+pub known_behind : (x : Entry) (es : Catalogue) (k : ℕ) → is_known es k ≡ true → is_known (x ∷ es) k ≡ true
+unfolding is_known
+known_behind x es k is = or_right _ _ is
+
+pub known_ways : (x : Entry) (es : Catalogue) (k : ℕ) → is_known (x ∷ es) k ≡ true → (x.key ≡ k) ⊎ (is_known es k ≡ true)
+unfolding is_known
+known_ways x es k is = ⊎_elim (λ same. inl (eqb-true x.key k same)) (λ other. inr other) (or_cases (eqb x.key k) (is_known es k) is)
+
 -- a known key is above what the catalogue ascends from, and well formed
 pub known_above : (es : Catalogue) (n k : ℕ) → Listed n es → is_known es k ≡ true → n < k
 unfolding is_known Listed
-known_above [] n k l e = absurd (false≢true e)
-known_above (x ∷ es) n k l e = go (eqb x.key k) refl e (known_above es x.key k l.3)
-  where
-    go : (b : Bool) → eqb x.key k ≡ b → (b || is_known es k) ≡ true → (is_known es k ≡ true → x.key < k) → n < k
-    go true same e ih = let q = eqb-true x.key k same in omega (arith, l.0)
-    go false other e ih = let q = ih e in omega (arith, l.0)
+known_above [] n k l e = cc
+known_above (x ∷ es) n k l e = ⊎_elim (λ same. omega (arith, l.0)) (λ is. let above = known_above es x.key k l.3 is in omega (arith, l.0)) (known_ways x es k e)
 
 pub known_formed : (es : Catalogue) (n k : ℕ) → Listed n es → is_known es k ≡ true → well_formed k ≡ true
 unfolding is_known Listed
-known_formed [] n k l e = absurd (false≢true e)
-known_formed (x ∷ es) n k l e = go (eqb x.key k) refl e (known_formed es x.key k l.3)
-  where
-    go : (b : Bool) → eqb x.key k ≡ b → (b || is_known es k) ≡ true → (is_known es k ≡ true → well_formed k ≡ true) → well_formed k ≡ true
-    go true same e ih = subst (λ n. well_formed n ≡ true) (eqb-true x.key k same) l.1
-    go false other e ih = ih e
+known_formed [] n k l e = cc
+known_formed (x ∷ es) n k l e = ⊎_elim (λ same. subst (λ n. well_formed n ≡ true) same l.1) (known_formed es x.key k l.3) (known_ways x es k e)
 
 -- so ascending known keys ascend from above 0
 pub above_none : (cat : Catalogue) (ss : Settings) → Listed 0 cat → Ascends ss → AllByRecursion (KnownIn cat) ss → Above 0 ss
@@ -72,8 +77,7 @@ above_none cat [] l a h = tt
 above_none cat (s ∷ ss) l a h = (known_above cat 0 s.key l h.0, a)
 
 known_rest : (x : Entry) (es : Catalogue) (k : ℕ) → x.key < k → is_known (x ∷ es) k ≡ true → is_known es k ≡ true
-unfolding is_known
-known_rest x es k lt e = rw (ne_eqb x.key k (λ q. omega arith)) at e
+known_rest x es k lt e = ⊎_elim (λ same. absurd (omega arith)) (λ is. is) (known_ways x es k e)
 
 all_rest : (x : Entry) (es : Catalogue) (ss : Settings) (n : ℕ) → x.key ≤ n → Above n ss → AllByRecursion (KnownIn (x ∷ es)) ss → AllByRecursion (KnownIn es) ss
 all_rest x es [] n le h k = tt
@@ -83,15 +87,12 @@ all_rest x es (s ∷ ss) n le h k = (known_rest x es s.key (omega arith) k.0, al
 pub few : (cat : Catalogue) (ss : Settings) (a b : ℕ) → Listed a cat → Above b ss → AllByRecursion (KnownIn cat) ss → length ss ≤ length cat
 unfolding is_known Listed
 few cat [] a b c h k = omega arith
-few [] (s ∷ ss) a b c h k = absurd (false≢true k.0)
-few (x ∷ es) (s ∷ ss) a b c h k = go (λ l b'. few es l x.key b' c.3) (eqb x.key s.key) refl k.0
-  where
-    go : ((l : Settings) (b : ℕ) → Above b l → AllByRecursion (KnownIn es) l → length l ≤ length es)
-        → (t : Bool) → eqb x.key s.key ≡ t → (t || is_known es s.key) ≡ true → suc (length ss) ≤ suc (length es)
-    go ih true same e =
-        let q = eqb-true x.key s.key same in
-        omega (arith, ih ss s.key h.1 (all_rest x es ss s.key (omega arith) h.1 k.1))
-    go ih false other e =
-        let q = known_above es x.key s.key c.3 e in
-        let n : length (s ∷ ss) ≤ length es = ih (s ∷ ss) x.key (q, h.1) (e, all_rest x es ss s.key (omega arith) h.1 k.1) in
-        omega arith
+few [] (s ∷ ss) a b c h k = let known = k.0 in cc
+few (x ∷ es) (s ∷ ss) a b c h k =
+    ⊎_elim
+    (λ same. omega (arith, few es ss x.key s.key c.3 h.1 (all_rest x es ss s.key (omega arith) h.1 k.1)))
+    (λ is.
+    let above = known_above es x.key s.key c.3 is in
+    let n : length (s ∷ ss) ≤ length es = few es (s ∷ ss) x.key x.key c.3 (above, h.1) (is, all_rest x es ss s.key (omega arith) h.1 k.1) in
+    omega arith)
+    (known_ways x es s.key k.0)

@@ -2,7 +2,7 @@
 use Rattle.std.proofs.Common.{◌≡◌, ℕ, ◌<◌, Bool, true, false, cond, ◌||◌, eqb, List, [], ◌∷◌, map, Some, None, Option, unwrap_or, sym, refl, ap, ◌∙◌, ap₂, arith}
 use Rattle.std.specs.List.{AllByRecursion}
 use Rattle.std.proofs.ByRecursion.{All-weaker}
-use Rattle.std.proofs.lemmas.Bool.{eq-eqb, ne_eqb, or_left, or_right, false≢true}
+use Rattle.std.proofs.lemmas.Bool.{eq-eqb, ne_eqb}
 use Rattle.catalogue.specs.declared.entries.Entry.{Entry}
 use Rattle.catalogue.specs.Catalogues.{Listed}
 use Rattle.layer.specs.Settings.{value_under, Above}
@@ -12,7 +12,7 @@ use Rattle.rule.specs.Rules.{Finding}
 use Rattle.reference.specs.Parts.{settings_by, stack_value, default_of, if_fit, stack_fault, stacked}
 use Rattle.reference.specs.Receiver.{configuration}
 use Rattle.reference.specs.Law.{value_at}
-use Rattle.reference.proofs.Settings.{KnownIn}
+use Rattle.reference.proofs.Settings.{KnownIn, known_first, known_behind}
 use Rattle.reference.proofs.Stores.{SoundCatalogue, Tidy}
 
 module _ (f : Entry → ℕ) where
@@ -25,11 +25,11 @@ module _ (f : Entry → ℕ) where
   unfolding settings_by is_known
   known_by [] = tt
   known_by (e ∷ es) =
-      (or_left _ _ (eq-eqb e.key e.key refl), All-weaker (KnownIn es) (KnownIn (e ∷ es)) (λ s is. or_right (eqb e.key s.key) (is_known es s.key) is) (settings_by f es) (known_by es))
+      (known_first e es, All-weaker (KnownIn es) (KnownIn (e ∷ es)) (λ s is. known_behind e es s.key is) (settings_by f es) (known_by es))
 
   some_by : (es : Catalogue) (k : ℕ) → is_known es k ≡ true → (v : ℕ) × (value_under k (settings_by f es) ≡ Some v)
   unfolding settings_by is_known
-  some_by [] k is = absurd (false≢true is)
+  some_by [] k is = cc
   some_by (e ∷ es) k is = go (eqb e.key k) is (some_by es k)
     where
       go : (b : Bool) → (b || is_known es k) ≡ true → (is_known es k ≡ true → (v : ℕ) × (value_under k (settings_by f es) ≡ Some v))
@@ -66,8 +66,8 @@ pub all_there : (es : Catalogue) (s : Store) → ((k : ℕ) → is_known es k �
 unfolding configuration is_known
 all_there [] s h = refl
 all_there (e ∷ es) s h =
-    let v = h e.key (or_left _ _ (eq-eqb e.key e.key refl)) in
-    ap₂ (λ (x : Option ℕ) (xs : List (Option ℕ)). x ∷ xs) (v.1 ∙ ap (λ o. Some (unwrap_or o e.default)) (sym v.1)) (all_there es s (λ k is. h k (or_right _ _ is)))
+    let v = h e.key (known_first e es) in
+    ap₂ (λ (x : Option ℕ) (xs : List (Option ℕ)). x ∷ xs) (v.1 ∙ ap (λ o. Some (unwrap_or o e.default)) (sym v.1)) (all_there es s (λ k is. h k (known_behind e es k is)))
 
 module _ (cat : Catalogue) (rule : Finding) (sound : SoundCatalogue cat) (defaults : rule cat (map default_of cat) ≡ None) where
   tidy_by : (f : Entry → ℕ) → Tidy cat (settings_by f cat)

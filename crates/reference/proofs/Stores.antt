@@ -2,7 +2,7 @@
 use Rattle.std.proofs.Common.{◌≡◌, ℕ, ◌≤◌, Bool, true, false, cond, ◌||◌, eqb, ltb, [], ◌∷◌, length, is_some, Some, None, Ok, Err, Option, unwrap_or, sym, refl, ap, ◌∙◌, subst, arith}
 use Rattle.std.specs.Option.{option_or}
 use Rattle.std.specs.List.{AllByRecursion}
-use Rattle.std.proofs.lemmas.Bool.{eqb-true, eq-eqb, lt-ltb, true≢false, or_left, or_right, cond_both}
+use Rattle.std.proofs.lemmas.Bool.{eqb-true, lt-ltb, cond_both}
 use Rattle.item.specs.Keys.{well_formed, fits_key}
 use Rattle.layer.specs.Settings.{value_under, with_value, without, Above}
 use Rattle.layer.specs.declared.fault.StoreFault.TheVariants.{Unusable, IllFormedKey, Unfit, Full}
@@ -12,7 +12,7 @@ use Rattle.catalogue.specs.Catalogues.{Listed}
 use Rattle.reference.specs.Stores.{Settings, Store, holding, held, put, removed}
 use Rattle.reference.specs.Requests.{Catalogue, is_known, Change, Data, latest, Changes, and_later}
 use Rattle.reference.specs.Receiver.{written_one, written}
-use Rattle.reference.proofs.Settings.{value_with, value_without, KnownIn, few, known_above, known_formed, above_without, all_with, all_without}
+use Rattle.reference.proofs.Settings.{value_with, value_without, KnownIn, few, known_first, known_behind, known_above, known_formed, above_without, all_with, all_without}
 
 pub record SoundCatalogue (cat : Catalogue) : Type 0 where
   pub at_most : length cat ≤ 128
@@ -94,8 +94,8 @@ module _ (cat : Catalogue) (sound : SoundCatalogue cat) where
     unfolding written is_known
     all_written [] s sub t u = record { tidy = t; usable = u; holds = λ j. refl }
     all_written (e ∷ es) s sub t u =
-        let one = one_written s e.key (d e.key) t u (sub e.key (or_left _ _ (eq-eqb e.key e.key refl))) (fit e.key) in
-        let all = all_written es (written_one (d e.key) e.key s) (λ k is. sub k (or_right _ _ is)) one.tidy one.usable in
+        let one = one_written s e.key (d e.key) t u (sub e.key (known_first e es)) (fit e.key) in
+        let all = all_written es (written_one (d e.key) e.key s) (λ k is. sub k (known_behind e es k is)) one.tidy one.usable in
         record {
           tidy = all.tidy;
           usable = all.usable;
@@ -167,7 +167,7 @@ module _ (cat : Catalogue) (set : Bool) where
       where
         go : (o : Option (Option ℕ)) → GoodAt cat set k o → o ≡ None
         go None g = refl
-        go (Some x) g = absurd (true≢false (sym g.0 ∙ out))
+        go (Some x) g = let known = g.0 in cc
 
     -- in a set, a named key has a value
     pub good_some : (k : ℕ) (x : Option ℕ) → set ≡ true → d k ≡ Some x → (v : ℕ) × (x ≡ Some v)

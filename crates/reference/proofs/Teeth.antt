@@ -3,10 +3,10 @@ use Rattle.std.proofs.Common.{◌≡◌, ℕ, List, [], ◌∷◌, length, Some,
 use Rattle.reference.specs.Law.{taken, tellings, AnsweredOut, Name, verdicts_in, OneVerdict, Throughout, granted, queued, is_loss, is_restart, bbr_back, flash_back, ram_back, ShownAsFound}
 use Rattle.reference.specs.Teeth.{Teeth}
 use Rattle.reference.proofs.Computing.{everything}
-use Rattle.reference.proofs.Finding.{some≢none}
+use Rattle.std.proofs.lemmas.Option.{none-some}
 
 empty : {A : Type 0} (x : A) (xs : List A) → x ∷ xs ≡ [] → ⊥
-empty x xs e = let z : ◌≡◌ {A = ℕ} 0 1 = cc in omega arith
+empty x xs e = cc
 
 -- two numbers in one place
 differs : (a b : ℕ) → (a ≡ b → ⊥) → Some a ≡ Some b → ⊥
@@ -22,13 +22,13 @@ teeth =
     record {
       early = λ ram bbr flash l. empty _ _ (l.telling.0.all_told tt);
       first_only = λ bbr flash l. differs 0 2 (λ e. omega arith) (l.ram_holds 0x2091033d);
-      untouched = λ ram flash l. some≢none _ (sym (l.bbr_holds 0x20510001));
+      untouched = λ ram flash l. none-some _ (l.bbr_holds 0x20510001);
       twice = λ ram bbr flash l. omega (arith, ap length l.telling.0.in_order.1);
       other = λ ram bbr flash l. omega (arith, ap head_id l.telling.1.0.in_order.1);
       no_verdict = λ ram bbr flash l. empty _ _ (sym (l.verdicts.0.0 refl));
       two_verdicts = λ ram bbr flash l. omega (arith, ap length (l.verdicts.0.0 refl));
       not_stacked = λ bbr flash l. differs 0x42 65 (λ e. omega arith) (l.ram_holds 0x20510001);
-      not_lost = λ ram flash l. some≢none _ (l.bbr_holds 0x20510001);
+      not_lost = λ ram flash l. none-some _ (sym (l.bbr_holds 0x20510001));
       stale = λ ram bbr flash l. differs 65 0x42 (λ e. omega arith) l.showing.0;
-      unnamed = λ ram bbr flash l. some≢none _ (sym l.showing.0);
+      unnamed = λ ram bbr flash l. none-some _ l.showing.0;
     }

@@ -1,12 +1,12 @@
 -- The calls of a receiver, and events: a call's arguments together with what it answered.
-use Rattle.std.specs.Prelude.{ℕ, List, [], take, Option}
+use Rattle.std.specs.Prelude.{ℕ, List, [], take, Some, None, Option}
 use Rattle.reference.specs.declared.call.Battery.{Battery}
 use Rattle.reference.specs.declared.call.Call.{Call}
 use Rattle.reference.specs.declared.call.Call.TheVariants.{Take, Answer, Look, Restart}
 use Rattle.reference.specs.declared.refusal.Verdict.{Verdict}
 use Rattle.reference.specs.declared.fault.CallFault.{CallFault}
 use Rattle.reference.specs.declared.answered.Answered.{Answered}
-use Rattle.reference.specs.declared.answered.Answered.TheVariants.{NothingWhole, Told}
+use Rattle.reference.specs.declared.answered.Telling.{Telling}
 
 -- a call, with bytes in place of the slice that lends them
 pub data Asking : Type 0 where
@@ -38,10 +38,22 @@ pub data Event : Type 0 where
 abbrev pub History : Type 0
 History = List Event
 
--- an answering's event, by its answer and what its buffer holds after it
+-- how many bytes an answering says that it wrote
+abbrev pub told_length : Option Telling → ℕ
+told_length None = 0
+told_length (Some t) = t.length
+
+abbrev pub answered_length : Answered → ℕ
+answered_length a = told_length a.told
+
+-- an answering's event, by the noise dropped, what was told, and the bytes written
+abbrev pub event_told : ℕ → Option Telling → List ℕ → Event
+event_told noise None written = nothing_whole noise
+event_told noise (Some t) written = told noise t.class t.id t.verdict written
+
+-- the same by its answer and what its buffer holds after it
 abbrev pub answered_event : List ℕ → Answered → Event
-answered_event buffer (NothingWhole noise) = nothing_whole noise
-answered_event buffer (Told t) = told t.noise t.class t.id t.verdict (take t.length buffer)
+answered_event buffer a = event_told a.noise a.told (take (answered_length a) buffer)
 
 -- what an event wrote
 abbrev pub written_by : Event → List ℕ

@@ -1,4 +1,4 @@
-// The four calls of a receiver, and what an answering answers.
+// The four calls of a receiver.
 
 // Whether the battery kept BBR over a restart.
 #[derive(Clone, Copy, Debug, PartialEq, Eq)]

@@ -11,6 +11,7 @@ use layer::Store;
 use rule::Rule;
 
 // The bench cases are answered as they should be.
+#[tactic(auto, using(crate::proofs::Bench::bench_cases))]
 pub fn bench_stands() -> u8
     ensures { BenchCases }
 {
@@ -25,6 +26,7 @@ pub fn law_stands() -> u8
 }
 
 // Receivers that are wrong break the law.
+#[tactic(auto, using(crate::proofs::Teeth::teeth))]
 pub fn law_has_teeth() -> u8
     ensures { Teeth }
 {
@@ -32,6 +34,7 @@ pub fn law_has_teeth() -> u8
 }
 
 // Every answer fits into a buffer of 790 bytes.
+#[tactic(auto, using(crate::proofs::Verdicts::writes_fit))]
 pub fn answers_fit() -> u8
     ensures { WritesFit }
 {
@@ -39,6 +42,7 @@ pub fn answers_fit() -> u8
 }
 
 // When answered out, answering has counted as much noise as scanning finds in the bytes taken.
+#[tactic(auto, using(crate::proofs::Runs::noise_counted))]
 pub fn noise_is_counted() -> u8
     ensures { NoiseCounted }
 {
@@ -46,6 +50,7 @@ pub fn noise_is_counted() -> u8
 }
 
 // A refused call leaves the state as it was.
+#[tactic(auto, using(crate::proofs::Refusals::refused_keeps))]
 pub fn refused_calls_keep() -> u8
     ensures { RefusedKeeps }
 {

@@ -1,6 +1,7 @@
 -- Runs of calls, one call further; and answerings whose buffer is larger than any answer.
-use Rattle.std.proofs.Common.{◌≡◌, ℕ, ◌+◌, ◌<◌, ◌≤◌, min, Bool, true, false, cond, eqb, ltb, List, [], ◌∷◌, ◌++◌, map, reverse, length, get_or, drop, IfOk, Some, None, Ok, Err, Option, Result, sym, refl, ap, ◌∙◌, subst, ap₂, ⊎_elim, arith}
-use Rattle.std.proofs.lemmas.Bool.{cond_both, cond-true, cases_lt, le-ltb, ltb-false}
+use Rattle.std.proofs.Common.{◌≡◌, ℕ, ◌+◌, ◌<◌, ◌≤◌, min, Bool, true, false, cond, eqb, ltb, List, [], ◌∷◌, ◌++◌, map, reverse, length, get_or, take, drop, Some, None, Ok, Err, Option, Result, sym, refl, ap, ◌∙◌, subst, ap₂, arith}
+use Rattle.std.proofs.lemmas.Bool.{cond_both, cond-true}
+use Rattle.std.proofs.lemmas.Bool.Decides.{nat_tests}
 use Rattle.std.proofs.lemmas.List.{length-append, drop_more, drop_all, map_push, reverse-append}
 use Rattle.frame.specs.Frames.{Message}
 use Rattle.frame.specs.Scanning.{finding}
@@ -10,9 +11,9 @@ use Rattle.reference.specs.declared.refusal.Refusal.{Refusal}
 use Rattle.reference.specs.declared.fault.CallFault.{CallFault}
 use Rattle.reference.specs.declared.fault.CallFault.TheVariants.{Shut, BufferTooShort}
 use Rattle.reference.specs.declared.answered.Answered.{Answered}
-use Rattle.reference.specs.declared.answered.Answered.TheVariants.{NothingWhole, Told}
+use Rattle.reference.specs.declared.answered.Telling.{Telling}
 use Rattle.reference.specs.Requests.{Catalogue, configuration_class}
-use Rattle.reference.specs.Events.{Asking, asking_of, answer_into, look_at, Event, took, nothing_whole, told, looked, restarted, refused}
+use Rattle.reference.specs.Events.{Asking, asking_of, answer_into, look_at, Event, took, nothing_whole, told, looked, restarted, refused, event_told, answered_length}
 use Rattle.reference.specs.Receiver.{State, Stepped, with_held, with_transaction, of_kind, judged, Plan, apply, queue, reply, carried_out, handled, answering, served, step, made_by, Run, run_from, run}
 use Rattle.reference.specs.Receiver.{made as made_of}
 use Rattle.reference.specs.declared.fault.PartsFault.{PartsFault}
@@ -20,7 +21,6 @@ use Rattle.reference.specs.Parts.{Parts, parts_fault}
 use Rattle.reference.specs.Law.{Law}
 use Rattle.reference.specs.Promise.{LawOf}
 use Rattle.receiver.specs.State.{answer_event}
-use Rattle.std.specs.declared.alloc.AllocError.{AllocError}
 use Rattle.replay.specs.declared.event.Event.{Event as Logged}
 use Rattle.reference.specs.declared.call.Call.{Call}
 use Rattle.replay.specs.Logs.{event_of, history_of, run_of, Replays}
@@ -42,9 +42,12 @@ for_room room (looked l k v) = looked l k v
 for_room room (restarted b f) = restarted b f
 for_room room (refused c f) = refused (answer_into room) f
 
+told_for : (room noise : ℕ) (o : Option Telling) (w : List ℕ) → event_told noise o w ≡ for_room room (event_told noise o w)
+told_for room noise None w = refl
+told_for room noise (Some t) w = refl
+
 answered_for : (room count : ℕ) (out : List ℕ) (r : Result Answered CallFault) → answer_event room out r ≡ for_room room (answer_event count out r)
-answered_for room count out (Ok (NothingWhole n)) = refl
-answered_for room count out (Ok (Told t)) = refl
+answered_for room count out (Ok a) = told_for room a.noise a.told (take (answered_length a) out)
 answered_for room count out (Err f) = refl
 
 module _ (cat : Catalogue) (rule : Finding) (room : ℕ) where
@@ -60,59 +63,45 @@ module _ (cat : Catalogue) (rule : Finding) (room : ℕ) where
   answering_for s n (Some m) = cond_both (eqb m.class configuration_class) _ _ (λ (r : Stepped). for_room room r.event ≡ r.event)
       (λ _. carried_for (with_transaction s (of_kind m.id s.transaction)) n m (judged cat rule (with_transaction s (of_kind m.id s.transaction)) m)) (λ _. refl)
 
-  -- with 790 bytes or more, an answering is refused by a shut receiver alone
-  unless_shut : State → ℕ → Bool → Stepped
-  unless_shut s k b =
-      cond b (record { state = s; event = refused (answer_into k) Shut }) (answering cat rule (with_held s (finding s.held_bytes).rest) (finding s.held_bytes).skipped (finding s.held_bytes).message)
+  -- a shut receiver, a short buffer, else an answering for which the room is nothing
+  asked : State → ℕ → Bool → Bool → Stepped
+  asked s k shut short =
+      cond shut (record { state = s; event = refused (answer_into k) Shut })
+      (cond short (record { state = s; event = refused (answer_into k) BufferTooShort }) (answering cat rule (with_held s (finding s.held_bytes).rest) (finding s.held_bytes).skipped (finding s.held_bytes).message))
 
-  large : (s : State) (k : ℕ) → 790 ≤ k → step cat rule s (answer_into k) ≡ unless_shut s k s.shut
-  unfolding step served unless_shut
-  large s k le =
-      ap
-      (λ (b : Bool).
-      cond s.shut (record { state = s; event = refused (answer_into k) Shut })
-      (cond b (record { state = s; event = refused (answer_into k) BufferTooShort }) (answering cat rule (with_held s (finding s.held_bytes).rest) (finding s.held_bytes).skipped (finding s.held_bytes).message)))
-      (le-ltb k 790 le)
+  same_state : (s : State) (k : ℕ) (shut short : Bool) → (asked s k shut short).state ≡ (asked s room shut short).state
+  unfolding asked
+  same_state s k true short = refl
+  same_state s k false true = refl
+  same_state s k false false = refl
 
-  same_state : (s : State) (k : ℕ) (b : Bool) → (unless_shut s k b).state ≡ (unless_shut s room b).state
-  unfolding unless_shut
-  same_state s k true = refl
-  same_state s k false = refl
+  same_event : (s : State) (k : ℕ) (shut short : Bool) → for_room room (asked s k shut short).event ≡ (asked s room shut short).event
+  unfolding asked
+  same_event s k true short = refl
+  same_event s k false true = refl
+  same_event s k false false = answering_for (with_held s (finding s.held_bytes).rest) (finding s.held_bytes).skipped (finding s.held_bytes).message
 
-  same_event : (s : State) (k : ℕ) (b : Bool) → for_room room (unless_shut s k b).event ≡ (unless_shut s room b).event
-  unfolding unless_shut
-  same_event s k true = refl
-  same_event s k false = answering_for (with_held s (finding s.held_bytes).rest) (finding s.held_bytes).skipped (finding s.held_bytes).message
-
-  -- with less, it is refused in any case
-  small_event : (s : State) → room < 790 → for_room room (step cat rule s (answer_into room)).event ≡ (step cat rule s (answer_into room)).event
-  unfolding step served
-  small_event s lt =
-      cond_both s.shut _ _ (λ (r : Stepped). for_room room r.event ≡ r.event) (λ _. refl)
-      (λ _. cond_both (ltb room 790) _ _ (λ (r : Stepped). for_room room r.event ≡ r.event) (λ _. refl) (λ no. let le = ltb-false room 790 no in absurd (omega arith)))
+  -- 790 bytes are too few where more are, and else none
+  as_short : (count : ℕ) → count ≡ min room 790 → ltb count 790 ≡ ltb room 790
+  as_short count is = grind (arith, nat_tests)
 
   pub any_state : (s s₁ : State) (count : ℕ) → count ≡ min room 790 → s₁ ≡ (step cat rule s (answer_into count)).state → s₁ ≡ (step cat rule s (answer_into room)).state
-  any_state s s₁ count is e =
-      ⊎_elim
-      (λ lt. let same : count ≡ room = omega arith in e ∙ ap (λ k. (step cat rule s (answer_into k)).state) same)
-      (λ le.
-      let most : count ≡ 790 = omega arith in
-      e ∙ ap (λ k. (step cat rule s (answer_into k)).state) most ∙ ap (λ (r : Stepped). r.state) (large s 790 (omega arith)) ∙ same_state s 790 s.shut ∙ sym (ap (λ (r : Stepped). r.state) (large s room le)))
-      (cases_lt room 790)
+  unfolding step served asked
+  any_state s s₁ count is e = e ∙ same_state s count s.shut (ltb count 790) ∙ ap (λ b. (asked s room s.shut b).state) (as_short count is)
 
-  pub any_event : (s : State) (count : ℕ) (out : List ℕ) (r : Result Answered CallFault) → count ≡ min room 790 → answer_event count out r ≡ (step cat rule s (answer_into count)).event
+  any_event : (s : State) (count : ℕ) (out : List ℕ) (r : Result Answered CallFault) → count ≡ min room 790 → answer_event count out r ≡ (step cat rule s (answer_into count)).event
       → answer_event room out r ≡ (step cat rule s (answer_into room)).event
+  unfolding step served asked
   any_event s count out r is e =
-      answered_for room count out r ∙ ap (for_room room) e
-      ∙ ⊎_elim
-      (λ lt. let same : count ≡ room = omega arith in ap (λ k. for_room room (step cat rule s (answer_into k)).event) same ∙ small_event s lt)
-      (λ le.
-      let most : count ≡ 790 = omega arith in
-      ap (λ k. for_room room (step cat rule s (answer_into k)).event) most ∙ ap (λ (r : Stepped). for_room room r.event) (large s 790 (omega arith)) ∙ same_event s 790 s.shut ∙ sym (ap (λ (r : Stepped). r.event) (large s room le)))
-      (cases_lt room 790)
+      answered_for room count out r ∙ ap (for_room room) e ∙ same_event s count s.shut (ltb count 790) ∙ ap (λ b. (asked s room s.shut b).event) (as_short count is)
 
-pub logged_as : (r : Result Logged AllocError) (x y : Event) → IfOk r (λ e. event_of e ≡ x) → x ≡ y → IfOk r (λ e. event_of e ≡ y)
-logged_as r x y h e = subst (λ (z : Event). IfOk r (λ l. event_of l ≡ z)) e h
+  pub any_told : (s : State) (count : ℕ) (out w : List ℕ) (a : Answered) → count ≡ min room 790 → answer_event count out (Ok a) ≡ (step cat rule s (answer_into count)).event
+      → w ≡ take (answered_length a) out → event_told a.noise a.told w ≡ (step cat rule s (answer_into room)).event
+  any_told s count out w a is e written = ap (event_told a.noise a.told) written ∙ any_event s count out (Ok a) is e
+
+  pub any_refused : (s : State) (count : ℕ) (f : CallFault) → refused (answer_into count) f ≡ (step cat rule s (answer_into count)).event → count ≡ min room 790
+      → refused (answer_into room) f ≡ (step cat rule s (answer_into room)).event
+  any_refused s count f e is = any_event s count [] (Err f) is e
 
 -- One call further
 

@@ -1,20 +1,27 @@
 -- What a log of the code means, and what a replay promises of it.
-use Rattle.std.specs.Prelude.{◌≡◌, List, map, reverse, None, vec_items}
-use Rattle.reference.specs.Events.{Asking, asking_of, History, took, nothing_whole, told, looked, restarted, refused}
+use Rattle.std.specs.Prelude.{◌≡◌, List, map, reverse, None, Ok, Err, Result, vec_items}
+use Rattle.reference.specs.Events.{Asking, asking_of, History, took, event_told, looked, restarted, refused}
 use Rattle.reference.specs.Events.{Event as Happened}
 use Rattle.reference.specs.Parts.{Parts, parts_fault}
 use Rattle.reference.specs.Receiver.{State, Run, run}
 use Rattle.reference.specs.Law.{Law}
 use Rattle.replay.specs.declared.event.Event.{Event}
-use Rattle.replay.specs.declared.event.Event.TheVariants.{Took, NothingWhole, Told, Looked, Restarted, Refused}
+use Rattle.replay.specs.declared.event.Event.TheVariants.{Took, Answered, Looked, Restarted, Refused}
+use Rattle.replay.specs.declared.unlogged.Unlogged.{Unlogged}
+use Rattle.replay.specs.declared.unlogged.Unlogged.TheVariants.{Refused as WasRefused, NoMemory}
 
 abbrev pub event_of : Event → Happened
 event_of (Took piece n) = took piece.now n
-event_of (NothingWhole n) = nothing_whole n
-event_of (Told t written) = told t.noise t.class t.id t.verdict (vec_items written)
+event_of (Answered a written) = event_told a.noise a.told (vec_items written)
 event_of (Looked layer key value) = looked layer key value
 event_of (Restarted battery fault) = restarted battery fault
 event_of (Refused call fault) = refused (asking_of call) fault
+
+-- what happened was this event, or this refusal of the call
+abbrev pub LoggedAs : Asking → Result Event Unlogged → Happened → Type 0
+LoggedAs asking (Ok e) happened = event_of e ≡ happened
+LoggedAs asking (Err (WasRefused fault)) happened = refused asking fault ≡ happened
+LoggedAs asking (Err (NoMemory error)) happened = Unit {0}
 
 -- a log has its oldest event first, a history its newest
 abbrev pub history_of : List Event → History

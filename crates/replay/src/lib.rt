@@ -2,11 +2,13 @@
 // stands on the log and the layers that are left.
 //
 // event.rt      what is logged of a call
+// unlogged.rt   why a call has no event of its own
 // replaying.rt  carrying out calls
 #![tactic(auto)]
 
 mod event;
 mod replaying;
+mod unlogged;
 
 pub use event::Event;
 pub use replaying::{Replayed, replay};

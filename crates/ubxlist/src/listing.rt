@@ -41,25 +41,18 @@ impl<'a, W: Write> Listing<'a, W> {
         Ok(answered)
     }
 
-    fn count_noise(&mut self, noise: usize) {
-        self.noise = self.noise.saturating_add(noise as u64);
-    }
-
     // Answers all frames that are whole in what is held. Each has a byte at least, and one answer more finds that none is whole.
     fn answer_all(&mut self) -> anyhow::Result<()> {
         for _ in 0..=self.receiver.held_count() {
             let place = self.place;
-            match self.answer_first()? {
-                Answered::NothingWhole(noise) => {
-                    self.count_noise(noise);
-                    break;
-                }
-                Answered::Told(telling) => {
-                    self.count_noise(telling.noise);
-                    let place = place.saturating_add(telling.noise as u64);
-                    self.out.writeln(Row { place, telling })?;
-                }
-            }
+            let answered = self.answer_first()?;
+            let noise = answered.noise as u64;
+            self.noise = self.noise.saturating_add(noise);
+            let Some(telling) = answered.told else {
+                break;
+            };
+            let place = place.saturating_add(noise);
+            self.out.writeln(Row { place, telling })?;
         }
         Ok(())
     }

@@ -1,7 +1,7 @@
 // The lines that answer the commands.
 use catalogue::CatalogueFault;
 use layer::StoreFault;
-use reference::{Call, CallFault, PartsFault, Refusal, Telling, Verdict};
+use reference::{Answered, Call, CallFault, PartsFault, Refusal, Telling, Verdict};
 use replay::Event;
 use script::LineFault;
 use std::fmt;
@@ -73,8 +73,7 @@ impl<'a, 'b> fmt::Display for EventLine<'a, 'b> {
     fn fmt<W: fmt::Write>(&self, f: &mut fmt::Formatter<W>) -> fmt::Result {
         match self.0 {
             Event::Took(_, count) => write!(f, "take {count}"),
-            Event::NothingWhole(noise) => write!(f, "answer noise {noise} nothing"),
-            Event::Told(telling, written) => show_telling(f, telling, written.as_slice()),
+            Event::Answered(answered, written) => show_answered(f, answered, written.as_slice()),
             Event::Looked(_, _, Some(value)) => write!(f, "look {value}"),
             Event::Looked(_, _, None) => f.write_str("look none"),
             Event::Restarted(_, None) => f.write_str("restart fit"),
@@ -99,19 +98,31 @@ fn show_refused<W: fmt::Write>(
     write!(f, "{name} refused {number}")
 }
 
+fn show_answered<W: fmt::Write>(
+    f: &mut fmt::Formatter<W>,
+    answered: &Answered,
+    written: &[u8],
+) -> fmt::Result {
+    let noise = answered.noise;
+    write!(f, "answer noise {noise} ")?;
+    match &answered.told {
+        None => f.write_str("nothing"),
+        Some(telling) => show_telling(f, telling, written),
+    }
+}
+
 fn show_telling<W: fmt::Write>(
     f: &mut fmt::Formatter<W>,
     telling: &Telling,
     written: &[u8],
 ) -> fmt::Result {
     let Telling {
-        noise,
         class,
         id,
         verdict,
         length: _,
     } = *telling;
-    write!(f, "answer noise {noise} {class:02x} {id:02x} {verdict}")?;
+    write!(f, "{class:02x} {id:02x} {verdict}")?;
     match verdict {
         Verdict::Outside => Ok(()),
         Verdict::Ack => show_written(f, written),

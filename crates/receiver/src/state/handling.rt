@@ -9,7 +9,7 @@ ghost use Rattle.reference.specs.Events.{answer_into, written_by};
 ghost use Rattle.receiver.specs.First.{message_in, end_of, FirstIs};
 ghost use Rattle.receiver.specs.State.{items_of, Kept, answer_event};
 ghost use Rattle.receiver.specs.Small.{RefusedLeaves, NakLeaves, AllOrNone};
-ghost use Rattle.receiver.specs.Handled.{handled_here, Handling, Answering, answering_of, length_of};
+ghost use Rattle.receiver.specs.Handled.{handled_here, Answering, answering_of, length_of};
 
 use super::Receiver;
 use super::meaning::Meaning;
@@ -42,7 +42,7 @@ impl<B: Store, F: Store, R: Rule> Receiver<B, F, R> {
     // Handles a frame that is held: one of the configuration class is judged and carried out. Then it is dropped.
     fn handle(&mut self, frame: HeldFrame, out: &mut [u8; ANSWER_ROOM]) -> Telling
         requires fits { end_of frame ≤ length (bytes_held self.old.held) }
-        ensures handling { Handling (handled_here (items_of self.old) (R.Rule.finding self.old.rule) (⟦<Self as Meaning>⟧.state self.old) frame) (⟦<Self as Meaning>⟧.state self.new) out.old out.new result }
+        ensures handling { Answering (handled_here (items_of self.old) (R.Rule.finding self.old.rule) (⟦<Self as Meaning>⟧.state self.old) frame) (⟦<Self as Meaning>⟧.state self.new) out.old out.new (record { noise = frame.noise; told = Some result }) }
         ensures kept { Kept self.old self.new }
     {
         if frame.class != CONFIGURATION_CLASS {
@@ -62,10 +62,16 @@ impl<B: Store, F: Store, R: Rule> Receiver<B, F, R> {
         ensures kept { Kept self.old self.new }
     {
         match self.first() {
-            Ok(frame) => Answered::Told(self.handle(frame, out)),
+            Ok(frame) => {
+                let telling = self.handle(frame, out);
+                Answered {
+                    noise: frame.noise,
+                    told: Some(telling),
+                }
+            }
             Err(noise) => {
                 self.held.skip(noise);
-                Answered::NothingWhole(noise)
+                Answered { noise, told: None }
             }
         }
     }

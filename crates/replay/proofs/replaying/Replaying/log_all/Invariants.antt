@@ -1,0 +1,15 @@
+use Rattle.std.proofs.Common.{◌≡◌, [], map, drop, vec_items}
+use Rattle.reference.specs.Events.{asking_of}
+use Rattle.reference.specs.Receiver.{run_from}
+use Rattle.receiver.specs.State.{items_of, state_of, Kept}
+use Rattle.replay.specs.Logs.{run_of}
+use Rattle.replay.proofs.replaying.Replaying.log_all.Given as goal
+
+abbrev pub invariant-loop-call : goal.invariant-loop-call
+invariant-loop-call g l =
+    let first = l.initial.self.receiver in
+    let cat = items_of first in
+    let rule = g.R.Rule.finding first.rule in
+    (run_from cat rule (run_of (vec_items l.log) (state_of g.B.Store.usable g.B.Layer.settings g.F.Store.usable g.F.Layer.settings l.self.receiver)) (map asking_of (drop l.call-index l.calls))
+    ≡ run_from cat rule (record { state = state_of g.B.Store.usable g.B.Layer.settings g.F.Store.usable g.F.Layer.settings first; history = [] }) (map asking_of l.calls))
+    × Kept first l.self.receiver
