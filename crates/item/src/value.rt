@@ -52,6 +52,7 @@ impl Size {
 }
 
 // The value in the first bytes, of which there are enough.
+#[tactic(auto, using(crate::proofs::Values::read_as))]
 fn value_in(size: Size, bytes: &[u8]) -> u64
     requires { width_of size ≤ length bytes.now }
     ensures value { result ≡ value_in size bytes.now }
@@ -74,6 +75,7 @@ pub fn read_value(size: Size, bytes: &[u8]) -> Option<u64>
 
 // Writes a value from a place of the buffer on; answers the place behind it. A refusal leaves the buffer as it was.
 // kept: buffer and place stand side by side, since any place is answered for; of a place beyond its end no part of the buffer could be lent
+#[tactic(auto, using(crate::proofs::Values::written_part, crate::proofs::Values::read_back))]
 pub fn write_value(
     out: &mut [u8],
     place: usize,

@@ -40,6 +40,7 @@ impl<U: Layer, L: Layer> Layer for Stack<U, L> {
 }
 
 // Stacking is associative: the same layers, grouped the other way, hold the same.
+#[tactic(auto, using(crate::specs::SettingsLemmas::merged_assoc))]
 pub fn regrouped<A: Layer, B: Layer, C: Layer>(s: Stack<Stack<A, B>, C>) -> Stack<A, Stack<B, C>>
     ensures { merged (A.Layer.settings result.upper) (merged (B.Layer.settings result.lower.upper) (C.Layer.settings result.lower.lower)) ≡ merged (merged (A.Layer.settings s.upper.upper) (B.Layer.settings s.upper.lower)) (C.Layer.settings s.lower) }
 {

@@ -9,6 +9,7 @@ use reference::Refusal;
 use request::{HEAD, KEY_BYTES, MAX_ENTRIES, key_at};
 
 // The key or selector of an entry with so many others before it.
+#[tactic(auto, using(crate::proofs::Walks::entry_many, crate::proofs::Walks::entry_cut, crate::proofs::Walks::entry_unknown))]
 pub(crate) fn number_in(catalogue: &Catalogue, entry: &[u8], before: usize) -> Result<u32, Refusal>
     requires { before ≤ 64 }
     ensures { EntryRead (entries_of catalogue.now) before entry.now result }
@@ -30,6 +31,7 @@ fn entries_in(payload: &[u8]) -> &[u8]
 }
 
 // The check of a get's keys and selectors: at most 64 from byte 4 on, each whole, each naming an item of the catalogue.
+#[tactic(auto, using(crate::proofs::Walks::keys_start, crate::proofs::Walks::keys_end))]
 pub fn check_keys(catalogue: &Catalogue, payload: &[u8]) -> Result<(), Refusal>
     ensures { result ≡ ok_map nothing (keys_of (entries_of catalogue.now) payload.now) }
 {

@@ -18,6 +18,7 @@ pub(crate) struct Pair {
 
 impl Pair {
     // Writes the pair at the start of a buffer; answers how many bytes it has.
+    #[tactic(auto, using(crate::proofs::Pairs::has_size))]
     pub(crate) fn write(&self, out: &mut [u8]) -> usize
         requires { 12 ≤ length out.old }
         ensures value { take result out.new ≡ pair_bytes self.now.setting }

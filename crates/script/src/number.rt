@@ -46,6 +46,7 @@ fn digit_in(base: Base, byte: u8) -> Option<u128>
 }
 
 // The number that all digits make, and the cap in place of any above it.
+#[tactic(auto, using(crate::proofs::Numbers::read_all))]
 fn digits_in(base: Base, digits: &[u8]) -> Option<u128>
     ensures { result ≡ capped (2 ^ 64) (followed_by (digits_of base) 0 digits.now) }
 {

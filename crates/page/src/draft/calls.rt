@@ -49,6 +49,7 @@ impl Draft {
     }
 
     // Writes a pair behind the others.
+    #[tactic(auto, using(crate::proofs::Pairs::take_patched))]
     fn put(&mut self, pair: &Pair)
         requires room { 0 < self.old.left }
         ensures after { payload_of self.new ≡ payload_of self.old ++ pair_bytes pair.now.setting }
@@ -62,6 +63,7 @@ impl Draft {
     }
 
     // Adds a setting: it is skipped, or written, or behind the page's last.
+    #[tactic(auto, using(crate::proofs::Drafted::finished_skip, crate::proofs::Drafted::finished_put, crate::proofs::Drafted::finished_full))]
     fn add(&mut self, pair: &Pair)
         ensures { (ss : List Setting) → finished self.new ss ≡ finished self.old (pair.now.setting ∷ ss) }
     {
@@ -73,6 +75,7 @@ impl Draft {
     }
 
     // Adds what a layer holds under a key.
+    #[tactic(auto, using(crate::proofs::Drafted::held_some, crate::proofs::Drafted::held_none))]
     fn add_held<L: Layer>(&mut self, layer: &L, key: u32)
         ensures { (ks : List ℕ) → finished_by (L.Layer.settings layer.now) self.new ks ≡ finished_by (L.Layer.settings layer.now) self.old (key ∷ ks) }
     {

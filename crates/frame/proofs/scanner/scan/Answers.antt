@@ -18,3 +18,11 @@ returns-in-Err-Undecided c =
     let same = scan_ends c.args.bytes.now c.places.place _ c.places.noise c.places.invariant.2 _ told c.from.ensures.value in
     record { value = same; promised = subst (Promised c.args.bytes.now) (sym same) (promised c.args.bytes.now) }
 
+pub places-preserved : goal.places-preserved
+places-preserved c =
+    let told = c.in-Ok.ensures in
+    let more = ap (map hearing_of) c.in_ok-push-in-Ok.ensures.items ∙ map_push hearing_of (vec_items c.places.frames) _ in (
+      omega arith,
+      omega arith,
+      scan_intact_on c.args.bytes.now c.places.place _ c.places.noise c.places.invariant.2 (message_of c.in-Ok.frame) c.size-place.result _ told.value c.size-place.ensures more,
+    )

@@ -4,9 +4,6 @@ use Rattle.page.specs.Walks.{nothing}
 use Rattle.page.proofs.Walks.{keys_start, keys_on, keys_stop, keys_end}
 use Rattle.page.proofs.entry.check_keys.Goals as goal
 
-pub loop-before-init : goal.loop-before-init
-loop-before-init c = search (rules, keys_start)
-
 pub loop-before-preserved : goal.loop-before-preserved
 loop-before-preserved c =
     let inv = c.loop-before.invariant in
@@ -22,6 +19,3 @@ returns-in_err-number_in c =
     let step = c.in-Some.ensures.steps in
     let stop = keys_stop (entries_of c.args.catalogue.now) _ _ _ _ _ _ step.0.1.0 step.0.1.1 inv.1 step.0.1.2 step.1 nothing _ c.in_err-number_in.ensures in
     search rules
-
-pub returns : goal.returns
-returns c = let step = c.in-None.ensures.steps in search (rules, keys_end)

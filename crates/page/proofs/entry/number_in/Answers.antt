@@ -6,15 +6,6 @@ use Rattle.request.specs.Keys.{key_in}
 use Rattle.page.proofs.Walks.{entry_many, entry_cut, entry_unknown, entry_known}
 use Rattle.page.proofs.entry.number_in.Goals as goal
 
-pub returns-then-before-eq-MAX_ENTRIES : goal.returns-then-before-eq-MAX_ENTRIES
-returns-then-before-eq-MAX_ENTRIES c = search (rules, entry_many)
-
-pub returns-in_err-number : goal.returns-in_err-number
-returns-in_err-number c = search (rules, entry_cut)
-
-pub returns-in_err-ok_or : goal.returns-in_err-ok_or
-returns-in_err-ok_or c = search (rules, entry_unknown)
-
 pub returns : goal.returns
 returns c =
     let next : NextNamed (selector_of c.in_ok-number.number) 0 (entries_of c.args.catalogue.now) (Some c.in_ok-ok_or.field-0) = search rules in

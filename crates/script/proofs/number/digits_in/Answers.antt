@@ -13,6 +13,3 @@ loop-byte-preserved c = (
   search rules,
   read_more (2 ^ 64) (digits_of c.args.base) c.loop-byte.number _ c.in_ok-digit_in.field-0 c.loop-byte.byte-index c.args.digits.now _ (search rules) (search rules) (search rules) (search rules) c.loop-byte.invariant.1,
 )
-
-pub returns : goal.returns
-returns c = search (rules, read_all)

@@ -5,9 +5,6 @@ use Rattle.item.specs.Values.{bytes_of}
 use Rattle.page.proofs.Pairs.{value_fits, has_size, width_few, pair_stands}
 use Rattle.page.proofs.pair.Pair.write.Goals as goal
 
-pub unwrap-requires : goal.unwrap-requires
-unwrap-requires c = search (rules, has_size)
-
 pub unwrap-requires-2 : goal.unwrap-requires-2
 unwrap-requires-2 c =
     let size = c.unwrap.ensures in
