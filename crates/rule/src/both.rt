@@ -19,7 +19,8 @@ impl<A: Rule, B: Rule> Rule for Both<A, B> {
     ghost places = { λ r. both_places (A.Rule.finding r.first) (B.Rule.finding r.second) (A.Rule.places r.first) (B.Rule.places r.second) };
 
     fn find(&self, configuration: Configuration<'_>) -> Option<usize> {
-        // kept: a match where `or_else` would do, since nothing is known of a closure that reads a struct with references
+        // kept: a match in place of `or_else`, after which nothing is known of the second's answer: tried with the closure's clause read off its
+        // body, and with one written out. A closure that passes a struct with references to a bound's method brings no promise
         match self.first.find(configuration) {
             Some(item) => Some(item),
             None => self.second.find(configuration),

@@ -1,5 +1,5 @@
 -- Numbers in text: what a row of digits is worth, and which are taken.
-use Rattle.std.specs.Prelude.{ℕ, ◌+◌, ◌-◌, ◌*◌, min, Bool, cond, List, [], ◌∷◌, Some, None, Option, nat_le}
+use Rattle.std.specs.Prelude.{◌≡◌, ℕ, ◌+◌, ◌-◌, ◌*◌, min, Bool, cond, List, [], ◌∷◌, Some, None, Option, Result, nat_le}
 
 -- whether a byte lies from one to another
 abbrev pub lies : ℕ → ℕ → ℕ → Bool
@@ -37,3 +37,8 @@ followed_by base n (b ∷ bs) = and_then (digit_in base b) (λ d. followed_by ba
 abbrev pub number_in : ℕ → List ℕ → Option ℕ
 number_in base [] = None
 number_in base (b ∷ bs) = followed_by base 0 (b ∷ bs)
+
+-- What is answered of a number, if there is one: what is said to a result that a type's conversion gives for it.
+abbrev pub Converted : {T E : Type 0} → (ℕ → Result T E → Type 0) → (Result T E → Option T) → Option ℕ → Option T → Type 0
+Converted gives say None o = o ≡ None
+Converted {T} {E} gives say (Some n) o = (r : Result T E) × gives n r × (o ≡ say r)

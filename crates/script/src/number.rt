@@ -1,6 +1,7 @@
 // Numbers in text: hexadecimal and decimal digits, with no sign, no prefix and nothing between them.
-ghost use Rattle.std.specs.Prelude.{◌≡◌, ◌-◌, ◌^◌, ◌<◌, ◌≤◌};
-ghost use Rattle.script.specs.Numbers.{digit_of, digit_in, followed_by, number_in, up_to, capped};
+ghost use Rattle.std.specs.Prelude.{◌≡◌, ◌-◌, ◌^◌, ◌<◌, ◌≤◌, Some};
+ghost use Rattle.std.specs.Result.{result_ok, result_unwrap_or};
+ghost use Rattle.script.specs.Numbers.{digit_of, digit_in, followed_by, number_in, up_to, capped, Converted};
 ghost use Rattle.script.specs.Bases.{digits_of};
 
 // The base of a number's digits.
@@ -66,46 +67,62 @@ fn number_in(base: Base, text: &str) -> Option<u128>
     digits_in(base, text.as_bytes())
 }
 
-// kept: each of these six is one line; a generic function would be told its base and its type at every call, and say no less
+// The number that a text is in a base, if the type holds it.
+fn limited<T: TryFrom<u128>>(base: Base, text: &str) -> Option<T>
+where
+    T::Error: Drop,
+    ensures { Converted T.try_from_gives result_ok (capped (2 ^ 64) (number_in (digits_of base) text.now)) result }
+{
+    T::try_from(number_in(base, text)?).ok()
+}
+
+// The number that a text is in a base, and `most` in place of one that the type does not hold.
+fn saturated<T: TryFrom<u128> + Drop>(base: Base, text: &str, most: T) -> Option<T>
+where
+    T::Error: Drop,
+    ensures { Converted T.try_from_gives (λ r. Some (result_unwrap_or r most)) (capped (2 ^ 64) (number_in (digits_of base) text.now)) result }
+{
+    Some(T::try_from(number_in(base, text)?).unwrap_or(most))
+}
 
 // A key or a word: a hexadecimal number below 2^32.
 pub fn read_word(text: &str) -> Option<u32>
     ensures { result ≡ up_to (2 ^ 32 - 1) (number_in 16 text.now) }
 {
-    u32::try_from(number_in(Base::Hexadecimal, text)?).ok()
+    limited::<u32>(Base::Hexadecimal, text)
 }
 
 // A byte: a hexadecimal number below 256.
 pub fn read_byte(text: &str) -> Option<u8>
     ensures { result ≡ up_to 255 (number_in 16 text.now) }
 {
-    u8::try_from(number_in(Base::Hexadecimal, text)?).ok()
+    limited::<u8>(Base::Hexadecimal, text)
 }
 
 // A value: a decimal number below 2^64.
 pub fn read_value(text: &str) -> Option<u64>
     ensures { result ≡ up_to (2 ^ 64 - 1) (number_in 10 text.now) }
 {
-    u64::try_from(number_in(Base::Decimal, text)?).ok()
+    limited::<u64>(Base::Decimal, text)
 }
 
 // The kind of an item: a decimal number below 256.
 pub fn read_kind(text: &str) -> Option<u8>
     ensures { result ≡ up_to 255 (number_in 10 text.now) }
 {
-    u8::try_from(number_in(Base::Decimal, text)?).ok()
+    limited::<u8>(Base::Decimal, text)
 }
 
 // A count: any decimal number. One of 2^64 or more is read as 2^64 - 1.
 pub fn read_count(text: &str) -> Option<usize>
     ensures { result ≡ capped (2 ^ 64 - 1) (number_in 10 text.now) }
 {
-    Some(usize::try_from(number_in(Base::Decimal, text)?).unwrap_or(usize::MAX))
+    saturated(Base::Decimal, text, usize::MAX)
 }
 
 // The number of a layer: any decimal number. One of 256 or more is read as 255, which is no layer's either.
 pub fn read_layer(text: &str) -> Option<u8>
     ensures { result ≡ capped 255 (number_in 10 text.now) }
 {
-    Some(u8::try_from(number_in(Base::Decimal, text)?).unwrap_or(u8::MAX))
+    saturated(Base::Decimal, text, u8::MAX)
 }
