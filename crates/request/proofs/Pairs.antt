@@ -40,13 +40,13 @@ pair_read_lem k v w s bs e se ve we =
 
 -- Whether its key is known
 
-known_at : (es : List Entry) (i k : ℕ) → i < length es → (get_or es i blank).key ≡ k → is_known es k ≡ true
+pub known_at : (es : List Entry) (i k : ℕ) → i < length es → (get_or es i blank).key ≡ k → is_known es k ≡ true
 unfolding is_known
 known_at [] i k lt e = absurd (omega arith)
 known_at (x ∷ es) zero k lt e = ap (λ b. b || is_known es k) (eq-eqb x.key k e)
 known_at (x ∷ es) (suc i) k lt e = let h = known_at es i k (omega arith) e in grind (arith, nat_tests)
 
-known_not : (es : List Entry) (k : ℕ) → FirstWith k es None → is_known es k ≡ false
+pub known_not : (es : List Entry) (k : ℕ) → FirstWith k es None → is_known es k ≡ false
 unfolding is_known
 known_not [] k none = refl
 known_not (x ∷ es) k none =
@@ -55,12 +55,12 @@ known_not (x ∷ es) k none =
 -- Taking it
 
 some_pair : (b : Bool) (q p : Pair) → Some p ≡ cond b None (Some q) → (b ≡ false) × (p ≡ q)
-some_pair true q p e = absurd (let z : ◌≡◌ {A = ℕ} 0 1 = cc in omega arith)
+some_pair true q p e = absurd (cc)
 some_pair false q p e = (refl, cc)
 
 none_pair : (b : Bool) (q : Pair) → None ≡ cond b None (Some q) → b ≡ true
 none_pair true q e = refl
-none_pair false q e = absurd (let z : ◌≡◌ {A = ℕ} 0 1 = cc in omega arith)
+none_pair false q e = absurd (cc)
 
 abbrev read_pair : List Entry → Pair → Read Data
 read_pair es p = cond (is_known es p.key) (read p.len (record { key = p.key; value = Some p.value } ∷ [])) unknown

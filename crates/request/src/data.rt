@@ -125,6 +125,7 @@ impl ItemChanges {
 
 impl Request<'_> {
     // What the data of a set or delete make of each item: the last value of a key stands.
+    #[tactic(auto, using(crate::proofs::Walks::data_start, crate::proofs::Walks::data_end, crate::proofs::Walks::data_many))]
     pub fn read_data(&self, catalogue: &Catalogue) -> Result<ItemChanges, Refusal>
         ensures { changes_of (entries_of catalogue.now) result ≡ ok_map latest (data_of (entries_of catalogue.now) self.now.id self.now.payload.now) }
     {
