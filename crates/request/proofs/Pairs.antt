@@ -1,11 +1,9 @@
 -- One pair of key and value.
-use Rattle.std.proofs.Common.{◌≡◌, ℕ, zero, suc, ◌+◌, ◌-◌, ◌%◌, ◌<◌, ◌≤◌, Bool, true, false, cond, ◌||◌, ltb, List, [], ◌∷◌, length, get_or, take, drop, set, Some, None, Ok, Err, Option, sym, refl, ap, ◌∙◌, arith}
-use Rattle.std.proofs.lemmas.List.{take_rest, length-drop}
+use Rattle.std.proofs.Common.{◌≡◌, ℕ, zero, suc, ◌+◌, ◌%◌, ◌<◌, ◌≤◌, Bool, true, false, cond, ◌||◌, ltb, List, [], ◌∷◌, length, get_or, take, drop, set, Some, None, Ok, Err, Option, sym, refl, ap, ◌∙◌, arith}
 use Rattle.std.proofs.lemmas.Bool.{ltb-false, eq-eqb, ne_eqb}
 use Rattle.std.proofs.lemmas.Bool.Decides.{nat_tests}
-use Rattle.item.specs.declared.key.Size.{Size}
-use Rattle.item.specs.Keys.{size_of, width_of}
-use Rattle.item.specs.Values.{number, value_read}
+use Rattle.item.specs.Keys.{size_of}
+use Rattle.item.specs.Values.{number}
 use Rattle.catalogue.specs.declared.entries.Entry.{Entry}
 use Rattle.catalogue.specs.Catalogues.{Listed, blank, FirstWith}
 use Rattle.reference.specs.Requests.{Data, Read, cut, unknown, read, read_map, bytes_at, limit_at, is_known, pair_read}
@@ -14,29 +12,8 @@ use Rattle.request.specs.declared.change.Change.TheVariants.{Put}
 use Rattle.request.specs.declared.data.Pair.{Pair}
 use Rattle.request.specs.declared.data.EntryFault.TheVariants.{Cut, Unknown}
 use Rattle.request.specs.Changes.{changes_by}
-use Rattle.request.specs.Keys.{key_in}
 use Rattle.request.specs.Reading.{pair_in, over, Taken}
 use Rattle.request.proofs.Settled.{over_one}
-
--- Reading it
-
-abbrev pair_by : Option Size → ℕ → List ℕ → Option Pair
-pair_by o k bs = cond (ltb (length bs) (4 + bytes_at o)) None (Some (record { key = k; value = number (take (bytes_at o) (drop 4 bs)) % limit_at o; len = 4 + bytes_at o }))
-
-sized_pair : (s : Size) (k v : ℕ) (bs : List ℕ) → 4 ≤ length bs → Some v ≡ value_read s (drop 4 bs) → Some (record { key = k; value = v; len = 4 + width_of s }) ≡ pair_by (Some s) k bs
-sized_pair s k v bs long e = let len = length-drop 4 bs in grind (arith, nat_tests)
-
-key_is : (k : ℕ) (bs : List ℕ) → Some k ≡ key_in bs → (k ≡ number (take 4 bs)) × (4 ≤ length bs)
-key_is k bs e = (grind (arith, nat_tests), grind (arith, nat_tests))
-
-pub pair_read_lem : (k v w : ℕ) (s : Size) (bs : List ℕ) → Some k ≡ key_in bs → Some s ≡ size_of k → Some v ≡ value_read s (take (length bs - 4) (drop 4 bs)) → w ≡ width_of s
-    → Some (record { key = k; value = v; len = 4 + w }) ≡ pair_in bs
-pair_read_lem k v w s bs e se ve we =
-    let key = key_is k bs e in
-    ap (λ n. Some (record { key = k; value = v; len = 4 + n })) we
-    ∙ sized_pair s k v bs key.1 (ve ∙ ap (value_read s) (take_rest bs 4))
-    ∙ ap (λ (o : Option Size). pair_by o k bs) se
-    ∙ ap (λ j. pair_by (size_of j) j bs) key.0
 
 -- Whether its key is known
 

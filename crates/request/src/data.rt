@@ -99,6 +99,7 @@ impl ItemChanges {
     }
 
     // Takes the key or selector at the front; answers how many bytes it takes.
+    #[tactic(auto, using(crate::proofs::Removals::removal_cut, crate::proofs::Removals::removal_taken, crate::proofs::Faults::faulted))]
     fn take_removal(&mut self, catalogue: &Catalogue, bytes: &[u8]) -> Result<usize, EntryFault>
         ensures { Taken (entries_of catalogue.now) (deletion_read (entries_of catalogue.now) bytes.now) (length bytes.now) self.old.slots self.new.slots result }
     {
