@@ -1,34 +1,22 @@
 -- The walk over the keys that a layer holds.
-use Rattle.std.proofs.Common.{◌≡◌, ℕ, zero, suc, ◌<◌, true, false, cond, List, [], ◌∷◌, length, get_or, Some, None, Option, is_some, sym, refl, ap, ◌∙◌, ⊎_elim, arith}
+use Rattle.std.proofs.Common.{◌≡◌, ℕ, zero, suc, ◌<◌, true, false, cond, List, [], ◌∷◌, length, Some, None, Option, is_some, sym, refl, ap, ◌∙◌, ⊎_elim, arith}
 use Rattle.std.proofs.lemmas.Bool.Decides.{nat_tests}
-use Rattle.std.proofs.lemmas.Bool.{cases_lt, or_left, or_right, or_from, eq-eqb, ne_eqb, cond-true, cond-false}
+use Rattle.std.proofs.lemmas.Bool.{cases_lt, eq-eqb, cond-true, cond-false}
 use Rattle.item.specs.Keys.{well_formed}
 use Rattle.catalogue.specs.declared.entries.Entry.{Entry}
-use Rattle.catalogue.specs.Catalogues.{blank, FirstWith}
+use Rattle.catalogue.specs.Catalogues.{FirstWith}
 use Rattle.layer.specs.declared.setting.Setting.{Setting}
 use Rattle.layer.specs.Settings.{setting, key_above, Above, Ascends, Sound}
 use Rattle.layer.proofs.Stores.{setting_key}
 use Rattle.reference.specs.Requests.{is_known}
+use Rattle.request.proofs.Pairs.{known_at, known_not}
 use Rattle.reference.specs.Parts.{stray_key}
 use Rattle.configuration.specs.Strays.{above}
 
 -- whether an item has a key, by the finder
-
-known_at : (k i : ℕ) (es : List Entry) → i < length es → (get_or es i blank).key ≡ k → true ≡ is_known es k
-unfolding is_known
-known_at k i [] lt e = absurd (omega arith)
-known_at k zero (x ∷ xs) lt e = sym (or_left _ _ (eq-eqb x.key k e))
-known_at k (suc i) (x ∷ xs) lt e = sym (or_right _ _ (sym (known_at k i xs (omega arith) e)))
-
-known_none : (k : ℕ) (es : List Entry) → ((j : ℕ) → j < length es → (get_or es j blank).key ≡ k → ⊥) → false ≡ is_known es k
-unfolding is_known
-known_none k [] all = refl
-known_none k (x ∷ xs) all =
-    sym (or_from _ _ (ne_eqb x.key k (all 0 (omega arith))) (sym (known_none k xs (λ j h. all (suc j) (omega arith)))))
-
 pub known_where : (k : ℕ) (es : List Entry) (place : Option ℕ) → FirstWith k es place → is_some place ≡ is_known es k
-known_where k es None none = known_none k es none
-known_where k es (Some i) found = known_at k i es found.0 found.1
+known_where k es None none = sym (known_not es k none)
+known_where k es (Some i) found = sym (known_at es i k found.0 found.1)
 
 -- a key that is held is above 0
 

@@ -1,11 +1,9 @@
 -- One pair of key and value.
-use Rattle.std.proofs.Common.{◌≡◌, ℕ, zero, suc, ◌+◌, ◌-◌, ◌%◌, ◌<◌, ◌≤◌, Bool, true, false, cond, ◌||◌, ltb, List, [], ◌∷◌, length, get_or, take, drop, set, Some, None, Ok, Err, Option, sym, refl, ap, ◌∙◌, arith}
-use Rattle.std.proofs.lemmas.List.{take_rest, length-drop}
+use Rattle.std.proofs.Common.{◌≡◌, ℕ, zero, suc, ◌+◌, ◌%◌, ◌<◌, ◌≤◌, Bool, true, false, cond, ◌||◌, ltb, List, [], ◌∷◌, length, get_or, take, drop, set, Some, None, Ok, Err, Option, sym, refl, ap, ◌∙◌, arith}
 use Rattle.std.proofs.lemmas.Bool.{ltb-false, eq-eqb, ne_eqb}
 use Rattle.std.proofs.lemmas.Bool.Decides.{nat_tests}
-use Rattle.item.specs.declared.key.Size.{Size}
-use Rattle.item.specs.Keys.{size_of, width_of}
-use Rattle.item.specs.Values.{number, value_read}
+use Rattle.item.specs.Keys.{size_of}
+use Rattle.item.specs.Values.{number}
 use Rattle.catalogue.specs.declared.entries.Entry.{Entry}
 use Rattle.catalogue.specs.Catalogues.{Listed, blank, FirstWith}
 use Rattle.reference.specs.Requests.{Data, Read, cut, unknown, read, read_map, bytes_at, limit_at, is_known, pair_read}
@@ -14,39 +12,18 @@ use Rattle.request.specs.declared.change.Change.TheVariants.{Put}
 use Rattle.request.specs.declared.data.Pair.{Pair}
 use Rattle.request.specs.declared.data.EntryFault.TheVariants.{Cut, Unknown}
 use Rattle.request.specs.Changes.{changes_by}
-use Rattle.request.specs.Keys.{key_in}
 use Rattle.request.specs.Reading.{pair_in, over, Taken}
 use Rattle.request.proofs.Settled.{over_one}
 
--- Reading it
-
-abbrev pair_by : Option Size → ℕ → List ℕ → Option Pair
-pair_by o k bs = cond (ltb (length bs) (4 + bytes_at o)) None (Some (record { key = k; value = number (take (bytes_at o) (drop 4 bs)) % limit_at o; len = 4 + bytes_at o }))
-
-sized_pair : (s : Size) (k v : ℕ) (bs : List ℕ) → 4 ≤ length bs → Some v ≡ value_read s (drop 4 bs) → Some (record { key = k; value = v; len = 4 + width_of s }) ≡ pair_by (Some s) k bs
-sized_pair s k v bs long e = let len = length-drop 4 bs in grind (arith, nat_tests)
-
-key_is : (k : ℕ) (bs : List ℕ) → Some k ≡ key_in bs → (k ≡ number (take 4 bs)) × (4 ≤ length bs)
-key_is k bs e = (grind (arith, nat_tests), grind (arith, nat_tests))
-
-pub pair_read_lem : (k v w : ℕ) (s : Size) (bs : List ℕ) → Some k ≡ key_in bs → Some s ≡ size_of k → Some v ≡ value_read s (take (length bs - 4) (drop 4 bs)) → w ≡ width_of s
-    → Some (record { key = k; value = v; len = 4 + w }) ≡ pair_in bs
-pair_read_lem k v w s bs e se ve we =
-    let key = key_is k bs e in
-    ap (λ n. Some (record { key = k; value = v; len = 4 + n })) we
-    ∙ sized_pair s k v bs key.1 (ve ∙ ap (value_read s) (take_rest bs 4))
-    ∙ ap (λ (o : Option Size). pair_by o k bs) se
-    ∙ ap (λ j. pair_by (size_of j) j bs) key.0
-
 -- Whether its key is known
 
-known_at : (es : List Entry) (i k : ℕ) → i < length es → (get_or es i blank).key ≡ k → is_known es k ≡ true
+pub known_at : (es : List Entry) (i k : ℕ) → i < length es → (get_or es i blank).key ≡ k → is_known es k ≡ true
 unfolding is_known
 known_at [] i k lt e = absurd (omega arith)
 known_at (x ∷ es) zero k lt e = ap (λ b. b || is_known es k) (eq-eqb x.key k e)
 known_at (x ∷ es) (suc i) k lt e = let h = known_at es i k (omega arith) e in grind (arith, nat_tests)
 
-known_not : (es : List Entry) (k : ℕ) → FirstWith k es None → is_known es k ≡ false
+pub known_not : (es : List Entry) (k : ℕ) → FirstWith k es None → is_known es k ≡ false
 unfolding is_known
 known_not [] k none = refl
 known_not (x ∷ es) k none =
@@ -55,12 +32,12 @@ known_not (x ∷ es) k none =
 -- Taking it
 
 some_pair : (b : Bool) (q p : Pair) → Some p ≡ cond b None (Some q) → (b ≡ false) × (p ≡ q)
-some_pair true q p e = absurd (let z : ◌≡◌ {A = ℕ} 0 1 = cc in omega arith)
+some_pair true q p e = absurd (cc)
 some_pair false q p e = (refl, cc)
 
 none_pair : (b : Bool) (q : Pair) → None ≡ cond b None (Some q) → b ≡ true
 none_pair true q e = refl
-none_pair false q e = absurd (let z : ◌≡◌ {A = ℕ} 0 1 = cc in omega arith)
+none_pair false q e = absurd (cc)
 
 abbrev read_pair : List Entry → Pair → Read Data
 read_pair es p = cond (is_known es p.key) (read p.len (record { key = p.key; value = Some p.value } ∷ [])) unknown

@@ -21,38 +21,25 @@ more_data : (c : Changes) (a : Data) (r : Result Data Refusal) → ok_map (behin
 more_data c a (Ok d) = ap Ok (over_append c a d)
 more_data c a (Err f) = refl
 
-abbrev width_in : Read Changes → ℕ
-width_in cut = 0
-width_in unknown = 0
-width_in (read n c) = n
-
-abbrev changes_in : Changes → Read Changes → Changes
-changes_in d cut = d
-changes_in d unknown = d
-changes_in d (read n c) = c
-
-abbrev kind_of : Read Changes → ℕ
-kind_of cut = 0
-kind_of unknown = 1
-kind_of (read n c) = 2
-
 walking_on : (x : Read Data) (c d : Changes) (n place : ℕ) (on : ℕ → Result Data Refusal) → read n d ≡ read_map (behind c) x
     → ok_map (behind c) (walking x place on) ≡ ok_map (behind d) (on n)
 unfolding walking
-walking_on cut c d n place on e = absurd (let z = ap kind_of e in omega arith)
-walking_on unknown c d n place on e = absurd (let z = ap kind_of e in omega arith)
+walking_on cut c d n place on e = absurd (cc)
+walking_on unknown c d n place on e = absurd (cc)
 walking_on (read m a) c d n place on e =
-    more_data c a (on m) ∙ sym (ap₂ (λ (k : ℕ) (b : Changes). ok_map (behind b) (on k)) (ap width_in e) (ap (changes_in d) e))
+    let width : n ≡ m = cc in
+    let after : d ≡ behind c a = cc in
+    more_data c a (on m) ∙ sym (ap₂ (λ (k : ℕ) (b : Changes). ok_map (behind b) (on k)) width after)
 
 walking_fault : (x : Read Data) (es : List Entry) (c : Changes) (slots : List (Option Change)) (place : ℕ) (f : EntryFault) (on : ℕ → Result Data Refusal)
     → taken_as es slots (Err f) ≡ read_map (behind c) x → ok_map (behind c) (walking x place on) ≡ Err (fault_at place f)
 unfolding walking
 walking_fault cut es c slots place Cut on e = refl
-walking_fault cut es c slots place Unknown on e = absurd (let z = ap kind_of e in omega arith)
-walking_fault unknown es c slots place Cut on e = absurd (let z = ap kind_of e in omega arith)
+walking_fault cut es c slots place Unknown on e = absurd (cc)
+walking_fault unknown es c slots place Cut on e = absurd (cc)
 walking_fault unknown es c slots place Unknown on e = refl
-walking_fault (read m a) es c slots place Cut on e = absurd (let z = ap kind_of e in omega arith)
-walking_fault (read m a) es c slots place Unknown on e = absurd (let z = ap kind_of e in omega arith)
+walking_fault (read m a) es c slots place Cut on e = absurd (cc)
+walking_fault (read m a) es c slots place Unknown on e = absurd (cc)
 
 walk_step : (one : List ℕ → Read Data) (left place : ℕ) (bs : List ℕ) → 0 < length bs → (left ≡ 0 → ⊥)
     → walk one left place bs ≡ walking (one bs) place (λ n. walk one (left - 1) (place + n) (drop n bs))

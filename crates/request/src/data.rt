@@ -99,6 +99,7 @@ impl ItemChanges {
     }
 
     // Takes the key or selector at the front; answers how many bytes it takes.
+    #[tactic(auto, using(crate::proofs::Removals::removal_cut, crate::proofs::Removals::removal_taken, crate::proofs::Faults::faulted))]
     fn take_removal(&mut self, catalogue: &Catalogue, bytes: &[u8]) -> Result<usize, EntryFault>
         ensures { Taken (entries_of catalogue.now) (deletion_read (entries_of catalogue.now) bytes.now) (length bytes.now) self.old.slots self.new.slots result }
     {
@@ -125,6 +126,7 @@ impl ItemChanges {
 
 impl Request<'_> {
     // What the data of a set or delete make of each item: the last value of a key stands.
+    #[tactic(auto, using(crate::proofs::Walks::data_start, crate::proofs::Walks::data_end, crate::proofs::Walks::data_many))]
     pub fn read_data(&self, catalogue: &Catalogue) -> Result<ItemChanges, Refusal>
         ensures { changes_of (entries_of catalogue.now) result ≡ ok_map latest (data_of (entries_of catalogue.now) self.now.id self.now.payload.now) }
     {

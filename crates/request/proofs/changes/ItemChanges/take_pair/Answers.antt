@@ -1,21 +1,18 @@
 use Rattle.std.proofs.Common.{sym, ◌∙◌}
-use Rattle.std.proofs.lemmas.Result.{err_from_is_err_and}
-use Rattle.request.proofs.Faults.{fault_is}
+use Rattle.request.proofs.Faults.{faulted}
 use Rattle.request.proofs.Pairs.{pair_cut, pair_unknown, pair_taken}
 use Rattle.request.proofs.changes.ItemChanges.take_pair.Goals as goal
 
 pub returns-in_err-pair : goal.returns-in_err-pair
 returns-in_err-pair c =
-    let p = err_from_is_err_and c.from_residual.result c.from_residual.ensures.1 in
     let cut = c.in_err-pair.ensures in
-    rw (p.1, p.2, fault_is _ _ _ cut.value cut.ok_part) (pair_cut _ _ _ _ (sym cut.ok_part ∙ c.read_pair.ensures))
+    rw (faulted _ _ _ _ c.from_residual.ensures.1 cut.value cut.ok_part) (pair_cut _ _ _ _ (sym cut.ok_part ∙ c.read_pair.ensures))
 
 pub returns-in_err-item : goal.returns-in_err-item
 returns-in_err-item c =
-    let p = err_from_is_err_and c.from_residual-in_err-item.result c.from_residual-in_err-item.ensures.1 in
     let none = c.in_err-item.ensures in
     let pair = c.in_ok-pair.ensures in
-    rw (p.1, p.2, fault_is _ _ _ none.value none.ok_part)
+    rw (faulted _ _ _ _ c.from_residual-in_err-item.ensures.1 none.value none.ok_part)
     (pair_unknown _ _ _ _ _ (sym pair.ok_part ∙ c.read_pair.ensures) (rw (c.entries.ensures.value, none.ok_part) at c.find_item.ensures))
 
 pub returns : goal.returns

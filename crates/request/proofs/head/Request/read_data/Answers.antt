@@ -1,14 +1,8 @@
 use Rattle.std.proofs.Common.{◌≡◌, ◌≢◌, ◌+◌, ◌-◌, rules, arith}
 use Rattle.std.proofs.lemmas.Result.{err_from_is_err_and}
 use Rattle.request.proofs.Faults.{taken_is, refused_is}
-use Rattle.request.proofs.Walks.{data_start, data_more, data_fault, data_many, data_end}
+use Rattle.request.proofs.Walks.{data_more, data_fault}
 use Rattle.request.proofs.head.Request.read_data.Goals as goal
-
-pub loop-entry-init : goal.loop-entry-init
-loop-entry-init c = search (rules, data_start)
-
-pub returns-then-place-self : goal.returns-then-place-self
-returns-then-place-self c = search (rules, data_end)
 
 pub returns-in_err-place : goal.returns-in_err-place
 returns-in_err-place c =
@@ -26,9 +20,3 @@ loop-entry-preserved c =
     let pos : 64 - c.loop-entry._entry ≢ 0 = omega arith in
     let next : 64 - c.loop-entry._entry - 1 ≡ 64 - (c.loop-entry._entry + 1) = omega arith in
     rw (← next) (data_more _ _ _ _ _ _ _ c.loop-entry.invariant _ _ _ c.if-place-self.false pos t)
-
-pub returns-then-place-self-2 : goal.returns-then-place-self-2
-returns-then-place-self-2 c = let e = c.loop-entry-test.false in search (rules, data_many)
-
-pub returns : goal.returns
-returns c = search (rules, data_end)
