@@ -84,6 +84,7 @@ impl<B: Store, F: Store, R: Rule> Receiver<B, F, R> {
     }
 
     // Carries out the judgement and writes its verdict. Every refusal cancels the transaction.
+    #[tactic(auto, using(crate::proofs::Buffers::by_place))]
     pub(crate) fn conclude(
         &mut self,
         frame: HeldFrame,

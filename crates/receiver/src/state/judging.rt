@@ -31,7 +31,7 @@ fn is_request(id: u8) -> bool
 
 impl<B: Store, F: Store, R: Rule> Receiver<B, F, R> {
     // The item at fault in the RAM that applying would leave. It is tried on a copy.
-    #[tactic(auto, using(crate::proofs::Planning::fault_found, crate::proofs::Planning::fault_unchosen))]
+    #[tactic(auto, using(crate::proofs::Planning::by_fault))]
     fn fault_of(&self, change: &LayerChange) -> Option<usize>
         ensures { result ≡ apply_fault (items_of self.now) (R.Rule.finding self.now.rule) (⟦<Self as Meaning>⟧.state self.now) change.now.layers (changes_by (items_of self.now) change.now.items.slots) }
     {

@@ -42,7 +42,7 @@ returns g c =
       count = answer_count cat rule s (length old) t old out a off enough answered;
       buffer = answer_buffer cat rule s (length old) t old out a off enough answered;
       refused = tt;
-      nak = nak_leaves cat rule s (length old) t old out (Ok a) state event;
-      all = all_or_none cat rule s (length old) t old out (Ok a) state event;
+      nak = nak_leaves cat rule s (length old) t out (Ok a) state event;
+      all = all_or_none cat rule s (length old) t out (Ok a) state event;
       kept = told.kept;
     }
