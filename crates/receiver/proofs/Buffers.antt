@@ -21,3 +21,5 @@ module _ (old part : List ℕ) (m : Message) where
   pub verdict_alone : part ≡ in_front (frame_bytes m) old → part ≡ patched 0 (frame_bytes m) old
   unfolding patched
   verdict_alone e = e ∙ ap (λ k. frame_bytes m ++ drop k old) (sym (zero-add (length (frame_bytes m))))
+
+pub ruleset by_place = (verdict_behind, verdict_alone)

@@ -14,6 +14,7 @@ use Rattle.reference.specs.Requests.{Catalogue, is_known}
 use Rattle.reference.specs.Events.{Asking, take_piece, answer_into, look_at, restart_with, Event, took, looked, restarted, refused, written_by, answered_length, answered_event}
 use Rattle.reference.specs.Receiver.{State, Stepped, with_held, step, served, taking, layer_of, looking, after_battery, restarting}
 use Rattle.reference.proofs.Verdicts.{writes_fit}
+use Rattle.receiver.proofs.Layers.{named_some, named_none}
 use Rattle.receiver.specs.Handled.{Answering, answering_of}
 
 module _ (cat : Catalogue) (rule : Finding) (s : State) where
@@ -108,3 +109,9 @@ module _ (cat : Catalogue) (rule : Finding) (s : State) where
     unfolding served restarting
     restart_event fault is =
         ap (restarted battery) (is ∙ ap (λ (b : Store). stack_fault cat rule (held b) (held s.flash)) after) ∙ ap (λ (r : Stepped). r.event) (on (restart_with battery) off)
+
+pub ruleset by_taking = (shut_state, shut_event, take_state, take_event)
+
+pub ruleset by_looking = (shut_event, look_some, look_unknown, look_none, named_some, named_none)
+
+pub ruleset by_restarting = (shut_state, shut_event, restart_state, restart_event)

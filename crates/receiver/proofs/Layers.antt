@@ -46,3 +46,5 @@ named_some f o l x e is = ap (option_map f) (sym is) ∙ e
 
 pub named_none : {A : Type 0} (f : A → Settings) (o : Option A) (l : Option Settings) → option_map f o ≡ l → o ≡ None → None ≡ l
 named_none f o l e is = ap (option_map f) (sym is) ∙ e
+
+pub ruleset by_number = (layer_ram, layer_bbr, layer_flash, layer_defaults, layer_none)

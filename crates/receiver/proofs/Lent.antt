@@ -1,12 +1,32 @@
 -- An answering into the part of a buffer that was lent is one into the whole buffer.
-use Rattle.std.proofs.Common.{◌≡◌, ℕ, ◌≤◌, List, ◌++◌, length, take, drop, sym, refl, ap, ◌∙◌, append_assoc, arith}
+use Rattle.std.proofs.Common.{◌≡◌, ℕ, ◌<◌, ◌≤◌, List, ◌++◌, length, take, drop, Some, None, Ok, Err, Option, ok_or, sym, refl, ap, ◌∙◌, subst, append_assoc, arith}
 use Rattle.std.proofs.lemmas.List.{length-append, length-take-le, take-append-le, drop-append-le, take-append-drop}
+use Rattle.std.specs.Prelude.{MatchOption}
+use Rattle.std.specs.Array.{IsFirstChunk}
+use Rattle.std.specs.Borrow.{MutBor}
 use Rattle.frame.specs.Written.{in_front}
 use Rattle.reference.specs.declared.answered.Answered.{Answered}
 use Rattle.reference.specs.declared.answered.Answered.TheVariants.{NothingWhole, Told}
 use Rattle.reference.specs.Events.{told, written_by, answered_event}
 use Rattle.reference.specs.Receiver.{State, Stepped}
 use Rattle.receiver.specs.Handled.{Answering, answered_length}
+
+-- what was lent, and why nothing was
+
+module _ {E : Type 0} (old : List ℕ) (n : ℕ) (o : Option (MutBor (List ℕ))) (e : E) (lent : MatchOption o (length old < n) (λ y. IsFirstChunk old y.now n)) where
+  pub lent_ok : (y : MutBor (List ℕ)) → Ok y ≡ ok_or o e → IsFirstChunk old y.now n
+  lent_ok y is = go o is lent
+    where
+      go : (o : Option (MutBor (List ℕ))) → Ok y ≡ ok_or o e → MatchOption o (length old < n) (λ y. IsFirstChunk old y.now n) → IsFirstChunk old y.now n
+      go None is m = let z : ◌≡◌ {A = ℕ} 0 1 = cc in absurd (omega arith)
+      go (Some x) is m = let same : x ≡ y = cc in subst (λ (z : MutBor (List ℕ)). IsFirstChunk old z.now n) same m
+
+  pub lent_err : (f : E) → Err f ≡ ok_or o e → (f ≡ e) × (length old < n)
+  lent_err f is = go o is lent
+    where
+      go : (o : Option (MutBor (List ℕ))) → Err f ≡ ok_or o e → MatchOption o (length old < n) (λ y. IsFirstChunk old y.now n) → (f ≡ e) × (length old < n)
+      go None is m = (cc, m)
+      go (Some x) is m = let z : ◌≡◌ {A = ℕ} 0 1 = cc in absurd (omega arith)
 
 same_event : (a : Answered) (out behind : List ℕ) → answered_length a ≤ length out → answered_event (out ++ behind) a ≡ answered_event out a
 same_event (NothingWhole n) out behind le = refl

@@ -32,6 +32,8 @@ module _ (cat : Catalogue) (rule : Finding) (s : State) (l : Layers) (d : Change
   unfolding apply_fault
   fault_found o ram e w f = f ∙ ap (λ (r : Store). rule cat (configuration cat r)) w ∙ sym (cond-true l.ram _ _ e)
 
+pub ruleset by_fault = (fault_unchosen, fault_found)
+
 none_at : (es : List Entry) (n k : ℕ) → changes_by es (replicate n None) k ≡ None
 none_at [] n k = refl
 none_at (e ∷ es) zero k = refl
@@ -45,10 +47,6 @@ none_queued es cs t e is = ap (changes_by es) e ∙ fun_ext (λ k. none_at es 12
 read_latest : (r : Result Data Refusal) (d : Changes) (F : Changes → Result Plan Refusal) → Ok d ≡ ok_map latest r → F d ≡ and_then r (λ x. F (latest x))
 read_latest (Ok x) d F e = let same : d ≡ latest x = cc in ap F same
 read_latest (Err x) d F e = let z : ◌≡◌ {A = ℕ} 0 1 = cc in absurd (omega arith)
-
-read_refused : (r : Result Data Refusal) (x : Refusal) (F : Changes → Result Plan Refusal) → Err x ≡ ok_map latest r → Err x ≡ and_then r (λ y. F (latest y))
-read_refused (Ok y) x F e = let z : ◌≡◌ {A = ℕ} 0 1 = cc in absurd (omega arith)
-read_refused (Err y) x F e = let same : x ≡ y = cc in ap Err same
 
 pub reads_none : (a : Action) → a ≡ Close → 2 < action_number a
 reads_none Apply e = absurd (cc)
@@ -72,9 +70,6 @@ module _ (cat : Catalogue) (rule : Finding) (s : State) (m : Message) (l : Layer
 
   pub plan_read : (a : ℕ) (d : Changes) (r : Result Plan Refusal) → a ≤ 2 → Ok d ≡ ok_map latest (data_of cat m.id m.payload) → r ≡ planned_with cat rule s m.id l a d → r ≡ planned cat rule s m l a
   plan_read a d r le e f = f ∙ read_latest (data_of cat m.id m.payload) d (planned_with cat rule s m.id l a) e ∙ sym (reads a le)
-
-  pub plan_refused : (a : ℕ) (x : Refusal) → a ≤ 2 → Err x ≡ ok_map latest (data_of cat m.id m.payload) → Err x ≡ planned cat rule s m l a
-  plan_refused a x le e = read_refused (data_of cat m.id m.payload) x (planned_with cat rule s m.id l a) e ∙ sym (reads a le)
 
   pub plan_queued : (a : ℕ) (q : Changes) (r : Result Plan Refusal) → 2 < a → q ≡ queue_of s.transaction → r ≡ applying (apply_fault cat rule s l q) l q → r ≡ planned cat rule s m l a
   plan_queued zero q r lt is f = absurd (omega arith)

@@ -2,7 +2,6 @@
 use Rattle.std.proofs.Common.{◌≡◌, ℕ, List, take, Some, None, Ok, Err, Option, Result, sym, refl, ap, ◌∙◌, subst, inl, inr}
 use Rattle.std.proofs.lemmas.Bool.{cond_both}
 use Rattle.frame.specs.Frames.{Message}
-use Rattle.frame.specs.Written.{in_front}
 use Rattle.rule.specs.Rules.{Finding}
 use Rattle.reference.specs.declared.refusal.Refusal.{Refusal}
 use Rattle.reference.specs.declared.refusal.Verdict.{Verdict}
@@ -14,22 +13,12 @@ use Rattle.reference.specs.Requests.{Catalogue}
 use Rattle.reference.specs.Events.{answer_into, Event, told, written_by, event_told, told_length}
 use Rattle.reference.specs.Receiver.{State, Stepped, Plan, apply, queue, reply, applied, carried_out, step}
 use Rattle.reference.proofs.Steps.{answer_ways, judged_in}
-use Rattle.reference.proofs.Refusals.{refused_keeps, nak_keeps}
+use Rattle.reference.proofs.Refusals.{nak_keeps}
 use Rattle.receiver.specs.State.{answer_event}
 use Rattle.receiver.specs.Small.{RefusedLeaves, NakedBy, NakTold, NakLeaves, AllOrNone}
 
-module _ (cat : Catalogue) (rule : Finding) (s : State) (room : ℕ) (after : State) (old out : List ℕ) (r : Result Answered CallFault) (is : after ≡ (step cat rule s (answer_into room)).state)
+module _ (cat : Catalogue) (rule : Finding) (s : State) (room : ℕ) (after : State) (out : List ℕ) (r : Result Answered CallFault) (is : after ≡ (step cat rule s (answer_into room)).state)
     (event : answer_event room out r ≡ (step cat rule s (answer_into room)).event) where
-  pub refused_leaves : out ≡ in_front (written_by (step cat rule s (answer_into room)).event) old → RefusedLeaves r s after old out
-  refused_leaves buffer = go r event
-    where
-      go : (r : Result Answered CallFault) → answer_event room out r ≡ (step cat rule s (answer_into room)).event → RefusedLeaves r s after old out
-      go (Ok a) e = tt
-      go (Err f) e = (
-        is ∙ refused_keeps cat rule s (answer_into room) (answer_into room) f (sym e),
-        buffer ∙ sym (ap (λ (x : Event). in_front (written_by x) old) e),
-      )
-
   pub nak_leaves : NakLeaves r s after out
   nak_leaves = go r event
     where

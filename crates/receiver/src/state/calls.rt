@@ -14,6 +14,7 @@ use rule::Rule;
 
 impl<B: Store, F: Store, R: Rule> Receiver<B, F, R> {
     // Takes bytes from the front of a piece until it ends or 780 are held; answers how many.
+    #[tactic(auto, using(crate::proofs::Calls::by_taking))]
     pub fn take(&mut self, piece: &[u8]) -> Result<usize, CallFault>
         ensures after { ⟦<Self as Meaning>⟧.state self.new ≡ (⟦<Self as Meaning>⟧.step self.old (take_piece piece.now)).state }
         ensures event { took_event piece.now result ≡ (⟦<Self as Meaning>⟧.step self.old (take_piece piece.now)).event }
@@ -40,6 +41,7 @@ impl<B: Store, F: Store, R: Rule> Receiver<B, F, R> {
     }
 
     // What a layer (0 RAM, 1 BBR, 2 Flash, 7 the defaults) holds under the key of an item.
+    #[tactic(auto, using(crate::proofs::Calls::by_looking))]
     pub fn look(&self, layer: u8, key: u32) -> Result<Option<u64>, CallFault>
         ensures { looked_event layer key result ≡ (⟦<Self as Meaning>⟧.step self.now (look_at layer key)).event }
     {
@@ -55,6 +57,7 @@ impl<B: Store, F: Store, R: Rule> Receiver<B, F, R> {
 
     // Drops the held bytes and the transaction, clears BBR where the battery was lost, and stacks RAM anew; answers the item at fault where
     // the stack was unfit, so that RAM is the defaults alone.
+    #[tactic(auto, using(crate::proofs::Calls::by_restarting))]
     pub fn restart(&mut self, battery: Battery) -> Result<Option<usize>, CallFault>
         ensures after { ⟦<Self as Meaning>⟧.state self.new ≡ (⟦<Self as Meaning>⟧.step self.old (restart_with battery)).state }
         ensures event { restarted_event battery result ≡ (⟦<Self as Meaning>⟧.step self.old (restart_with battery)).event }

@@ -34,6 +34,7 @@ fn apply_if<S: Store>(chosen: bool, catalogue: &Catalogue, changes: &ItemChanges
 
 impl<B: Store, F: Store, R: Rule> Receiver<B, F, R> {
     // Changes the chosen layers, RAM first, then BBR, then Flash, and ends the transaction.
+    #[tactic(auto, using(crate::proofs::Carried::applied_is))]
     fn apply(&mut self, change: &LayerChange)
         ensures after { ⟦<Self as Meaning>⟧.state self.new ≡ applied (items_of self.old) (⟦<Self as Meaning>⟧.state self.old) change.now.layers (changes_by (items_of self.old) change.now.items.slots) }
         ensures kept { Kept self.old self.new }
@@ -83,6 +84,7 @@ impl<B: Store, F: Store, R: Rule> Receiver<B, F, R> {
     }
 
     // Carries out the judgement and writes its verdict. Every refusal cancels the transaction.
+    #[tactic(auto, using(crate::proofs::Buffers::by_place))]
     pub(crate) fn conclude(
         &mut self,
         frame: HeldFrame,

@@ -97,9 +97,9 @@ impl<B: Store, F: Store, R: Rule> Receiver<B, F, R> {
         if self.shut {
             return Err(CallFault::Shut);
         }
-        match out.first_chunk_mut::<ANSWER_ROOM>() {
-            Some(room) => Ok(self.answer_first(room)),
-            None => Err(CallFault::BufferTooShort),
-        }
+        let room = out
+            .first_chunk_mut::<ANSWER_ROOM>()
+            .ok_or(CallFault::BufferTooShort)?;
+        Ok(self.answer_first(room))
     }
 }

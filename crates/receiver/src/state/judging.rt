@@ -31,6 +31,7 @@ fn is_request(id: u8) -> bool
 
 impl<B: Store, F: Store, R: Rule> Receiver<B, F, R> {
     // The item at fault in the RAM that applying would leave. It is tried on a copy.
+    #[tactic(auto, using(crate::proofs::Planning::by_fault))]
     fn fault_of(&self, change: &LayerChange) -> Option<usize>
         ensures { result ≡ apply_fault (items_of self.now) (R.Rule.finding self.now.rule) (⟦<Self as Meaning>⟧.state self.now) change.now.layers (changes_by (items_of self.now) change.now.items.slots) }
     {
@@ -54,6 +55,7 @@ impl<B: Store, F: Store, R: Rule> Receiver<B, F, R> {
     }
 
     // What is queued; nothing where no transaction is open.
+    #[tactic(auto, using(crate::proofs::Planning::none_queued))]
     fn queue(&self) -> ItemChanges
         ensures { changes_by (items_of self.now) result.slots ≡ queue_of (option_map (opened_of (items_of self.now)) self.now.transaction) }
     {

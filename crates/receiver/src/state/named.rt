@@ -64,6 +64,7 @@ impl<'a, B: Store, F: Store> Layer for NamedLayer<'a, B, F> {
 
 impl<B: Store, F: Store, R: Rule> Receiver<B, F, R> {
     // The layer with this number; none where there is no such layer, or a Flash that is not usable.
+    #[tactic(auto, using(crate::proofs::Layers::by_number))]
     pub(crate) fn layer(&self, number: u8) -> Option<NamedLayer<'_, B, F>>
         ensures { option_map (named_settings B.Layer.settings F.Layer.settings) result ≡ layer_of (items_of self.now) (⟦<Self as Meaning>⟧.state self.now) number }
     {
