@@ -6,10 +6,9 @@ use Rattle.std.specs.Array.{IsFirstChunk}
 use Rattle.std.specs.Borrow.{MutBor}
 use Rattle.frame.specs.Written.{in_front}
 use Rattle.reference.specs.declared.answered.Answered.{Answered}
-use Rattle.reference.specs.declared.answered.Answered.TheVariants.{NothingWhole, Told}
-use Rattle.reference.specs.Events.{told, written_by, answered_event}
+use Rattle.reference.specs.Events.{event_told, written_by, answered_length, answered_event}
 use Rattle.reference.specs.Receiver.{State, Stepped}
-use Rattle.receiver.specs.Handled.{Answering, answered_length}
+use Rattle.receiver.specs.Handled.{Answering}
 
 -- what was lent, and why nothing was
 
@@ -29,8 +28,7 @@ module _ {E : Type 0} (old : List ℕ) (n : ℕ) (o : Option (MutBor (List ℕ))
       go (Some x) is m = let z : ◌≡◌ {A = ℕ} 0 1 = cc in absurd (omega arith)
 
 same_event : (a : Answered) (out behind : List ℕ) → answered_length a ≤ length out → answered_event (out ++ behind) a ≡ answered_event out a
-same_event (NothingWhole n) out behind le = refl
-same_event (Told t) out behind le = ap (told t.noise t.class t.id t.verdict) (take-append-le t.length out behind le)
+same_event a out behind le = ap (event_told a.noise a.told) (take-append-le (answered_length a) out behind le)
 
 front_of : (w old : List ℕ) (n : ℕ) → n ≤ length old → length w ≤ n → in_front w (take n old) ++ drop n old ≡ in_front w old
 front_of w old n enough le =
