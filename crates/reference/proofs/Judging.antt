@@ -1,6 +1,7 @@
 -- What a granted frame shows: the way back from the plan to the payload.
-use Rattle.std.proofs.Common.{◌≡◌, ℕ, zero, suc, ◌≤◌, Bool, true, false, cond, not, ◌&&◌, ◌||◌, eqb, ◌⊎◌, List, Some, None, Ok, Err, Option, Result, sym, refl, ap, ◌∙◌, ap₂, inl, inr, arith}
-use Rattle.std.proofs.lemmas.Bool.{eqb-true, le-leb, not-false}
+use Rattle.std.proofs.Common.{◌≡◌, ℕ, zero, suc, ◌≤◌, Bool, true, false, cond, not, ◌&&◌, ◌||◌, eqb, ◌⊎◌, List, Some, None, Ok, Err, Option, Result, sym, refl, ap, ◌∙◌, ap₂, inl, inr, ⊎_elim, arith}
+use Rattle.std.proofs.lemmas.Bool.{eqb-true, le-leb}
+use Rattle.std.proofs.lemmas.Bool.Decides.{nat_tests}
 use Rattle.frame.specs.Frames.{Message, frame_bytes}
 use Rattle.reference.specs.Stores.{Settings}
 use Rattle.rule.specs.Rules.{Finding}
@@ -28,17 +29,13 @@ abbrev pub is_change : ℕ → Bool
 is_change id = eqb id valset || eqb id valdel
 
 but_not : (a b : Bool) → (a && not b) ≡ false → a ≡ true → b ≡ true
-but_not true b e t = not-false b e
-but_not false b e t = cc
+but_not a b e t = grind (arith, nat_tests)
 
 and_second : (a b : Bool) → (a && b) ≡ false → a ≡ true → b ≡ false
-and_second true b e t = e
-and_second false b e t = cc
+and_second a b e t = grind (arith, nat_tests)
 
 one_of_three : (a b c : Bool) → not (a || (b || c)) ≡ false → b ≡ false → (a || c) ≡ true
-one_of_three true b c e n = refl
-one_of_three false true c e n = cc
-one_of_three false false c e n = not-false c e
+one_of_three a b c e n = grind (arith, nat_tests)
 
 -- an action 2 or 3 has a transaction open
 open_from : (o : Option Transaction) → is_none o ≡ false → (t : Transaction) × (o ≡ Some t)
@@ -219,5 +216,9 @@ module _ (cat : Catalogue) (rule : Finding) (s : State) (m : Message) where
   no_reply_at (suc (suc zero)) bs e = let x = and_then_ok (data_of cat m.id m.payload) _ (reply bs) e in let no = x.2 in cc
   no_reply_at (suc (suc (suc n))) bs e = let no = only_applies _ _ _ (reply bs) e in cc
 
-  pub change_no_reply : (bs : List ℕ) → GrantedChange (reply bs) → ⊥
+  change_no_reply : (bs : List ℕ) → GrantedChange (reply bs) → ⊥
   change_no_reply bs g = no_reply_at action bs g.plan_is
+
+  -- so a reply is a granted VALGET's
+  pub reply_shows : (bs : List ℕ) → judged cat rule s m ≡ Ok (reply bs) → GrantedGet (reply bs)
+  reply_shows bs e = ⊎_elim (λ g. g) (λ g. absurd (change_no_reply bs g)) (judged_shows (reply bs) e)

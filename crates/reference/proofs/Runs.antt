@@ -24,7 +24,7 @@ use Rattle.reference.specs.Law.{granted, is_loss, is_restart, queued, bbr_back, 
 use Rattle.reference.specs.Noise.{NoiseIsTold, NoiseCounted}
 use Rattle.reference.specs.Promise.{LawAfter, LawOf, LawHolds}
 use Rattle.reference.proofs.Hearing.{Tracked, tracked_made, tracked_took, tracked_nothing, tracked_told, tracked_looked, tracked_refused, tracked_restarted, in_order, all_told, noise_told_lem, next_is}
-use Rattle.reference.proofs.Judging.{GrantedChange, judged_shows, change_no_reply, applies, queues}
+use Rattle.reference.proofs.Judging.{GrantedChange, judged_shows, reply_shows, applies, queues}
 use Rattle.reference.proofs.Verdicts.{step_once}
 use Rattle.reference.proofs.Settings.{above_none}
 use Rattle.reference.proofs.Stores.{GoodChanges, later_good}
@@ -112,11 +112,7 @@ module _ (p : Parts) (ok : Accepted p) (s : State) (h : History) (i : Invariant 
         ⊎_elim (λ g. cc) (λ g. apply_keeps _ l d g) (judged_shows p.catalogue p.rule s' m (apply l d) e)
     config_keeps (Ok (queue t)) e =
         ⊎_elim (λ g. cc) (λ g. queue_keeps _ t g) (judged_shows p.catalogue p.rule s' m (queue t) e)
-    config_keeps (Ok (reply bs)) e =
-        ⊎_elim
-        (λ g. get_keeps _ g.is_get)
-        (λ g. absurd (change_no_reply p.catalogue p.rule s' m bs g))
-        (judged_shows p.catalogue p.rule s' m (reply bs) e)
+    config_keeps (Ok (reply bs)) e = get_keeps _ (reply_shows p.catalogue p.rule s' m bs e).is_get
 
   served_keeps : (c : Asking) → After (served p.catalogue p.rule s c)
   unfolding served taking restarting granted is_loss is_restart

@@ -1,7 +1,7 @@
 -- What putting and removing leave under each key, and how many settings ascending keys of a catalogue can be.
-use Rattle.std.proofs.Common.{◌≡◌, ℕ, ◌<◌, ◌≤◌, Bool, true, false, cond, eqb, ltb, ◌⊎◌, [], ◌∷◌, length, Some, None, sym, refl, subst, inl, inr, ⊎_elim, arith}
+use Rattle.std.proofs.Common.{◌≡◌, ℕ, ◌<◌, ◌≤◌, true, cond, eqb, ltb, ◌⊎◌, [], ◌∷◌, length, Some, None, refl, subst, inl, inr, ⊎_elim, arith}
 use Rattle.std.specs.List.{AllByRecursion}
-use Rattle.std.proofs.lemmas.Bool.{eqb-true, eqb-false, eq-eqb, cond_both, or_left, or_right, or_cases}
+use Rattle.std.proofs.lemmas.Bool.{eqb-true, eq-eqb, cond_both, or_left, or_right, or_cases}
 use Rattle.std.proofs.lemmas.Bool.Decides.{nat_tests}
 use Rattle.item.specs.Keys.{well_formed}
 use Rattle.layer.specs.declared.setting.Setting.{Setting}
@@ -15,11 +15,7 @@ use Rattle.reference.specs.Requests.{Catalogue, is_known}
 -- Under each key
 
 pub value_with : (k v j : ℕ) (ss : Settings) → value_under j (with_value k v ss) ≡ cond (eqb k j) (Some v) (value_under j ss)
-value_with k v j ss = go (eqb k j) refl
-  where
-    go : (b : Bool) → eqb k j ≡ b → value_under j (with_value k v ss) ≡ cond b (Some v) (value_under j ss)
-    go true e = subst (λ n. value_under n (with_value k v ss) ≡ Some v) (eqb-true k j e) (value_with_same k v ss)
-    go false e = value_with_other k v j ss (λ same. eqb-false k j e (sym same))
+value_with k v j ss = grind (arith, nat_tests, value_with_same, value_with_other)
 
 pub value_without : (k j : ℕ) (ss : Settings) → value_under j (without k ss) ≡ cond (eqb k j) None (value_under j ss)
 value_without k j [] = grind (arith, nat_tests)

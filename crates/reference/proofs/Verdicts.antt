@@ -1,5 +1,5 @@
 -- A told frame of the configuration class has one verdict, which the written bytes hold once.
-use Rattle.std.proofs.Common.{◌≡◌, ℕ, ◌+◌, ◌*◌, ◌≤◌, List, [], ◌∷◌, ◌++◌, length, Some, None, Ok, Err, Option, Result, refl, ap, ◌∙◌, ⊎_elim, arith, length-append, length-take}
+use Rattle.std.proofs.Common.{◌≡◌, ℕ, ◌+◌, ◌*◌, ◌≤◌, List, [], ◌∷◌, ◌++◌, length, Some, None, Ok, Err, Option, Result, refl, ap, ◌∙◌, arith, length-append, length-take}
 use Rattle.std.proofs.lemmas.List.{drop_all}
 use Rattle.std.proofs.lemmas.Bool.{cond_both}
 use Rattle.frame.specs.Frames.{max_payload, Message, size_of, frame_bytes, carrying}
@@ -21,7 +21,7 @@ use Rattle.reference.specs.Receiver.{State, Plan, apply, queue, reply, pairs_byt
 use Rattle.reference.specs.Events.{Asking, take_piece, answer_into, look_at, restart_with, written_by}
 use Rattle.reference.specs.Law.{heard, verdicts_in, HasVerdict, OneVerdict}
 use Rattle.reference.specs.Promise.{WritesFit}
-use Rattle.reference.proofs.Judging.{judged_shows, change_no_reply}
+use Rattle.reference.proofs.Judging.{reply_shows}
 use Rattle.reference.proofs.Steps.{answer_ways, look_ways, judged_in}
 
 -- A page fits a frame: at most 64 pairs of at most 12 bytes
@@ -78,15 +78,9 @@ module _ (cat : Catalogue) (rule : Finding) where
   carried_once s n m of-class (Ok (apply l d)) e = told_once m n Ack _ of-class (verdict_heard m 0 1)
   carried_once s n m of-class (Ok (queue t)) e = told_once m n Ack _ of-class (verdict_heard m 0 1)
   carried_once s n m of-class (Ok (reply bs)) e =
-      ⊎_elim
-      (λ g. go g.settings g.keys g.plan_is)
-      (λ g. absurd (change_no_reply cat rule s m bs g))
-      (judged_shows cat rule s m (reply bs) e)
-    where
-      go : (ss : Settings) (ks : List ℕ) → reply bs ≡ reply (frame_bytes (page ss m.payload ks)) → OneVerdict (tell n m Ack (bs ++ ack_of m))
-      go ss ks same =
-          let is : bs ≡ frame_bytes (page ss m.payload ks) = cc in
-          told_once m n Ack _ of-class (rw is (reply_heard m ss m.payload ks))
+      let g = reply_shows cat rule s m bs e in
+      let is : bs ≡ frame_bytes (page g.settings m.payload g.keys) = cc in
+      told_once m n Ack _ of-class (rw is (reply_heard m g.settings m.payload g.keys))
 
   served_once : (s : State) (c : Asking) → OneVerdict (served cat rule s c).event
   unfolding OneVerdict served taking restarting
@@ -109,16 +103,10 @@ module _ (cat : Catalogue) (rule : Finding) where
   carried_fits s n m (Ok (apply l d)) e = rw (frame_length (verdict_frame 1 m)) (omega arith)
   carried_fits s n m (Ok (queue t)) e = rw (frame_length (verdict_frame 1 m)) (omega arith)
   carried_fits s n m (Ok (reply bs)) e =
-      ⊎_elim
-      (λ g. go g.settings g.keys g.plan_is)
-      (λ g. absurd (change_no_reply cat rule s m bs g))
-      (judged_shows cat rule s m (reply bs) e)
-    where
-      go : (ss : Settings) (ks : List ℕ) → reply bs ≡ reply (frame_bytes (page ss m.payload ks)) → length (bs ++ ack_of m) ≤ 790
-      go ss ks same =
-          let is : bs ≡ frame_bytes (page ss m.payload ks) = cc in
-          let few = page_length ss m.payload ks in
-          rw is (simp (length-append, frame_length) (omega arith))
+      let g = reply_shows cat rule s m bs e in
+      let is : bs ≡ frame_bytes (page g.settings m.payload g.keys) = cc in
+      let few = page_length g.settings m.payload g.keys in
+      rw is (simp (length-append, frame_length) (omega arith))
 
   served_fits : (s : State) (c : Asking) → length (written_by (served cat rule s c).event) ≤ 790
   unfolding served taking restarting

@@ -30,9 +30,6 @@ pub look_keeps : (cat : Catalogue) (rule : Finding) (s : State) (layer key : ℕ
 unfolding step served
 look_keeps cat rule s layer key = cond_both s.shut _ _ (λ (r : Stepped). s ≡ r.state) (λ _. refl) (λ _. refl)
 
-pub fits_front : (n : ℕ) (w old out : List ℕ) → n ≡ length w → out ≡ in_front w old → n ≤ length out
-fits_front n w old out e is = let all = ap length is ∙ length-append w (drop (length w) old) in omega arith
-
 -- an answering's event, with another room where it was refused
 abbrev for_room : ℕ → Event → Event
 for_room room (took piece n) = took piece n

@@ -43,7 +43,7 @@ impl<B: Store + Drop, F: Store + Drop, R: Rule + Drop> Replaying<B, F, R> {
         Ok(Event::Answered(answered, written))
     }
 
-    // A call that is granted, and its event.
+    // Carries out a call, and makes its event. A refusal is passed on, and has none yet.
     #[tactic(auto, using(crate::proofs::Runs::look_keeps))]
     fn carry_out<'a>(&mut self, call: Call<'a>) -> Result<Event<'a>, Unlogged>
         ensures after { ⟦<Receiver<B, F, R> as Meaning>⟧.state self.new.receiver ≡ (⟦<Receiver<B, F, R> as Meaning>⟧.step self.old.receiver (asking_of call.entry)).state }
@@ -62,7 +62,7 @@ impl<B: Store + Drop, F: Store + Drop, R: Rule + Drop> Replaying<B, F, R> {
         }
     }
 
-    // Any call, and its event.
+    // Carries out a call, and makes its event, that of a refusal too.
     fn log_call<'a>(&mut self, call: Call<'a>) -> Result<Event<'a>, AllocError>
         ensures after { ⟦<Receiver<B, F, R> as Meaning>⟧.state self.new.receiver ≡ (⟦<Receiver<B, F, R> as Meaning>⟧.step self.old.receiver (asking_of call.entry)).state }
         ensures event { IfOk result (λ e. event_of e ≡ (⟦<Receiver<B, F, R> as Meaning>⟧.step self.old.receiver (asking_of call.entry)).event) }
