@@ -22,3 +22,6 @@ loop-entry-preserved g c ks =
       | then-names w ↦ ap at w.self-is ∙ named_more ss es s i _ c.loop-entry-test.true _ _ (sym w.if-names.true ∙ named) w.add_held.ensures ks ∙ c.loop-entry.invariant ks
       | else-names w ↦ ap at w.self-is ∙ named_less ss es s i _ c.loop-entry-test.true _ (sym w.if-names.false ∙ named) ks ∙ c.loop-entry.invariant ks
     ]
+
+pub returns : goal.returns
+returns g c ks = named_end (g.L.Layer.settings c.args.layer.now) c.args.entries.now _ c.loop-entry.entry-index _ c.loop-entry-test.false ks ∙ c.loop-entry.invariant ks

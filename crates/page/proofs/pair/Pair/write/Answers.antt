@@ -13,12 +13,6 @@ unwrap-requires-2 c =
     let first : c.write_value.new.out ≡ patched 0 (bytes_of 4 c.args.self.now.setting.key) c.args.out.now = search rules in
     search (rules, value_fits)
 
-pub returns-clause-few : goal.returns-clause-few
-returns-clause-few c =
-    let few = width_few c.unwrap.result in
-    let four : c.unwrap-behind.result ≡ 4 = search rules in
-    search rules
-
 pub returns-clause-value : goal.returns-clause-value
 returns-clause-value c =
     let size : Some c.unwrap.result ≡ size_of c.args.self.now.setting.key = cc in
