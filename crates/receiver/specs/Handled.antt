@@ -15,6 +15,7 @@ use Rattle.receiver.specs.First.{message_in, end_of}
 abbrev pub handled_here : Catalogue → Rule → State → HeldFrame → Stepped
 handled_here cat rule s h = handled cat rule (with_held s (drop (end_of h) s.held_bytes)) h.noise (message_in s.held_bytes h)
 
+-- how many bytes an answering says that it wrote; none where it was refused
 abbrev pub length_of : Result Answered CallFault → ℕ
 length_of (Ok a) = answered_length a
 length_of (Err f) = 0
