@@ -1,5 +1,5 @@
 -- The small promises follow from the reference's step.
-use Rattle.std.proofs.Common.{◌≡◌, ℕ, List, take, Some, None, Ok, Err, Option, Result, sym, refl, ap, ◌∙◌, subst, inl, inr}
+use Rattle.std.proofs.Common.{◌≡◌, ℕ, List, take, Some, None, Ok, Err, Option, Result, sym, refl, subst, inl, inr}
 use Rattle.std.proofs.lemmas.Bool.{cond_both}
 use Rattle.frame.specs.Frames.{Message}
 use Rattle.rule.specs.Rules.{Finding}
@@ -10,12 +10,12 @@ use Rattle.reference.specs.declared.fault.CallFault.{CallFault}
 use Rattle.reference.specs.declared.answered.Answered.{Answered}
 use Rattle.reference.specs.declared.answered.Telling.{Telling}
 use Rattle.reference.specs.Requests.{Catalogue}
-use Rattle.reference.specs.Events.{answer_into, Event, told, written_by, event_told, told_length}
+use Rattle.reference.specs.Events.{answer_into, told, event_told, told_length}
 use Rattle.reference.specs.Receiver.{State, Stepped, Plan, apply, queue, reply, applied, carried_out, step}
 use Rattle.reference.proofs.Steps.{answer_ways, judged_in}
 use Rattle.reference.proofs.Refusals.{nak_keeps}
 use Rattle.receiver.specs.State.{answer_event}
-use Rattle.receiver.specs.Small.{RefusedLeaves, NakedBy, NakTold, NakLeaves, AllOrNone}
+use Rattle.receiver.specs.Small.{NakedBy, NakTold, NakLeaves, AllOrNone}
 
 module _ (cat : Catalogue) (rule : Finding) (s : State) (room : ℕ) (after : State) (out : List ℕ) (r : Result Answered CallFault) (is : after ≡ (step cat rule s (answer_into room)).state)
     (event : answer_event room out r ≡ (step cat rule s (answer_into room)).event) where
