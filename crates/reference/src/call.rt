@@ -15,7 +15,8 @@ pub enum Call<'a> {
     // answer, with a buffer of so many bytes
     Answer(usize),
     // look at a layer, for a key
-    // kept: the layer is any byte, since one that there is not is to be refused; an enum of layers would ask more of the caller
+    // kept: the layer is any byte, since one that there is not is to be refused: an enum of the four would ask more of the caller, and one with a
+    // case for every other byte would say no more than the byte
     Look(u8, u32),
     Restart(Battery),
 }
