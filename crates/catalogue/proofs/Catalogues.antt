@@ -63,9 +63,6 @@ listed_from place below (e ∷ es) h =
 
 -- entries that were checked, wherever they stand
 
-pub checked_same : (xs ys : List Entry) → xs ≡ ys → is_ok (entries_checked 0 0 ys) ≡ true → is_ok (entries_checked 0 0 xs) ≡ true
-checked_same xs ys e h = ap (λ (l : List Entry). is_ok (entries_checked 0 0 l)) e ∙ h
-
 ok_is : (r : Result (Unit {0}) CatalogueFault) → is_ok r ≡ true → r ≡ Ok tt
 ok_is (Ok tt) e = refl
 ok_is (Err f) e = absurd (cc)

@@ -1,6 +1,6 @@
 -- Laws of bytes that are written into a buffer.
-use Rattle.std.proofs.Common.{◌≡◌, ℕ, suc, ◌+◌, ◌/◌, ◌%◌, ◌<◌, ◌≤◌, List, [], ◌∷◌, ◌++◌, length, get_or, take, drop, set, sym, refl, ap, ◌∙◌, subst, append_assoc, add-zero, zero-add, arith}
-use Rattle.std.proofs.lemmas.List.{length-take-le, length-append, take-append-drop, take_at, take_more_set, drop_at, drop-drop, drop-set-lt}
+use Rattle.std.proofs.Common.{◌≡◌, ℕ, suc, ◌+◌, ◌/◌, ◌%◌, ◌≤◌, List, [], ◌∷◌, ◌++◌, length, get_or, take, drop, sym, refl, ap, ◌∙◌, subst, append_assoc, zero-add, arith}
+use Rattle.std.proofs.lemmas.List.{length-take-le, length-append, take_at, drop_at, drop-drop}
 use Rattle.std.specs.Int.{w16, to_le_bytes}
 use borrow.Rule.Slice.PartMut.{put_mid}
 use Rattle.frame.specs.declared.sums.CheckBytes.{CheckBytes}
@@ -10,19 +10,6 @@ use Rattle.frame.specs.Scanning.{HeardAs}
 use Rattle.frame.specs.Written.{patched, in_front}
 use Rattle.frame.proofs.Frames.{frame_length}
 use Rattle.frame.proofs.Scanning.{heard_as_written}
-
--- no byte, and one byte more
-pub patched_nil : (place : ℕ) (old : List ℕ) → patched place [] old ≡ old
-unfolding patched
-patched_nil place old = rw add-zero (take-append-drop place old)
-
-pub patched_cons : (place b : ℕ) (bs old : List ℕ) → place < length old → patched (place + 1) bs (set old place b) ≡ patched place (b ∷ bs) old
-unfolding patched
-patched_cons place b bs old lt =
-    let e : place + suc (length bs) ≡ place + 1 + length bs = omega arith in
-    let t = take_more_set old place b lt in
-    let d = drop-set-lt (place + 1 + length bs) old place b (omega arith) in
-    rw (t, d, e) (append_assoc (take place old) (b ∷ []) (bs ++ drop (place + 1 + length bs) old))
 
 -- what stands from the place on
 pub drop_patched : (place : ℕ) (bs old : List ℕ) → place ≤ length old → drop place (patched place bs old) ≡ bs ++ drop (place + length bs) old
