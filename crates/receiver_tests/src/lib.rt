@@ -7,3 +7,5 @@ mod bench;
 mod frames;
 #[cfg(test)]
 mod runs;
+#[cfg(test)]
+mod sizes;
