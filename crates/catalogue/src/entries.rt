@@ -67,7 +67,7 @@ impl CatalogueFault {
     }
 
     // The entry at fault; 0 where it is none in particular.
-    // kept: public, and promises a number for each fault; an Option would promise something else
+    // kept: public, and promises 0 where no entry is at fault; an Option would promise something else
     pub fn entry(self) -> usize
         ensures { result ≡ fault_entry self }
     {

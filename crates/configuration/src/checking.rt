@@ -38,9 +38,7 @@ fn check_behind<B: Store, F: Store, R: Rule>(
 }
 
 // The check of the parts: the first fault, in the order of the refusals' numbers.
-// kept: each part is given where it stands; as one `Parts` they would have to be moved together first and taken apart again, and of references a
-// struct would be made for each call
-#[tactic(auto, using(crate::proofs::Refused::accepted), unfolding(reference::specs::Parts::parts_fault))]
+// kept: public, and lends each part where it stands: ubxreplay checks two stores that stay in its set-up, which no `Parts` could own
 pub fn check<B: Store, F: Store, R: Rule>(
     entries: &[Entry],
     bbr: &B,

@@ -206,7 +206,8 @@ pub fn scan(heap: Global, bytes: &[u8]) -> Result<Listing<'_>, AllocError>
     let mut frames = Vec::new(heap);
     let mut noise = 0usize;
     let mut place = 0usize;
-    // kept: a heard frame is passed over whole, so the places go up by steps of different size
+    // kept: a heard frame is passed over whole, so the places go up by steps of different size; an iterator of places would carry the frames and
+    // the noise in its closure
     'places: loop {
         match summed.start_at(place) {
             Err(Unheard::Noise) => {

@@ -6,7 +6,8 @@ pub mod calls;
 
 #[derive(Drop)]
 pub struct Held {
-    // kept: fixed memory, and dropping moves `start` alone; a vector of fixed capacity would shift what is left
+    // kept: fixed memory, and dropping moves `start` and no byte; a vector of fixed capacity would move all that is left, and a ring would lend it
+    // in two parts
     bytes: [u8; 780],
     start: usize,
     end: usize,

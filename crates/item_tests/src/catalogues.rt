@@ -2,6 +2,7 @@
 use catalogue::{Entry, Kind, bench_catalogue, check_catalogue, find_item, next_named};
 
 // The check, with the number and entry of its refusal.
+// kept: by number, as the docs name refusals, so that the numbers are tested too
 fn checked(entries: &[Entry]) -> Result<(), (u8, usize)> {
     check_catalogue(entries).map_err(|fault| (fault.number(), fault.entry()))
 }
@@ -58,15 +59,11 @@ fn two_s_complement_bounds(rt: HostRuntime) {
 // The sum of the item numbers that a number of the wire names, and how many they are.
 fn named(number: u32) -> (usize, usize) {
     let entries = bench_catalogue();
-    let mut sum = 0usize;
-    let mut count = 0usize;
-    for from in 0..7 {
-        if next_named(&entries, number, from) == Some(from) {
-            sum = sum.saturating_add(from);
-            count = count.saturating_add(1);
-        }
-    }
-    (sum, count)
+    (0..7usize)
+        .filter(|from| next_named(&entries, number, *from) == Some(*from))
+        .fold((0usize, 0usize), |(sum, count), item| {
+            (sum.saturating_add(item), count.saturating_add(1))
+        })
 }
 
 #[test]

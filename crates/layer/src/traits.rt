@@ -32,7 +32,7 @@ pub trait Store: Layer {
         ensures shows { Shows result (Self.Layer.settings self.now) };
 
     // Sets one value.
-    // kept: a key and a value, as std's maps take them at `insert`
+    // kept: a key and a value and no `Setting`, as std's maps take them at `insert`
     fn put(&mut self, key: u32, value: u64) -> Result<(), StoreFault>
         ensures answer { result ≡ put_answer (usable self.old) key value (Self.Layer.settings self.old) }
         ensures after { Self.Layer.settings self.new ≡ after_put result key value (Self.Layer.settings self.old) }

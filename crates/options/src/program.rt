@@ -4,7 +4,7 @@ ghost use Rattle.std.specs.Process.{exit_status};
 
 use crate::arguments::{Options, read_options};
 use crate::input::Input;
-use anyhow::bail;
+use anyhow::anyhow;
 use std::io::{BufWriter, Stdout, Write};
 use std::process::ExitCode;
 use std::rt::HostRuntime;
@@ -41,10 +41,10 @@ fn attempt<F: FnOnce(Input, &mut BufWriter<Stdout>) -> anyhow::Result<()>>(
     match read_options(env::args(rt)?)? {
         Options::Help => out.write_all(help.as_bytes())?,
         Options::StandardInput => work(Input::Standard(rt.stdin()), &mut out)?,
-        Options::File(path) => match fs::open(rt, path.as_str()) {
-            Ok(file) => work(Input::File(path, file), &mut out)?,
-            Err(fault) => bail!("{path}: {fault}"),
-        },
+        Options::File(path) => {
+            let file = fs::open(rt, path.as_str()).map_err(|fault| anyhow!("{path}: {fault}"))?;
+            work(Input::File(path, file), &mut out)?
+        }
     }
     out.flush()?;
     Ok(())

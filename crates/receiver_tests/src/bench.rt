@@ -31,10 +31,7 @@ pub(crate) fn bench() -> Bench {
 
 // How the frame was told that an answering told.
 pub(crate) fn telling_of(answered: Answered) -> Result<Telling, Fail> {
-    let Some(telling) = answered.told else {
-        return Err(Fail::new("no frame is whole"));
-    };
-    Ok(telling)
+    answered.told.ok_or(Fail::new("no frame is whole"))
 }
 
 // How much noise was dropped by an answering that found no whole frame.
@@ -46,6 +43,7 @@ pub(crate) fn noise_of(answered: Answered) -> Result<usize, Fail> {
 }
 
 // The receiver takes these bytes and answers them with those; answers the refusal's number, 0 where the frame is granted.
+// kept: by number, as the docs name refusals, so that the numbers are tested too
 pub(crate) fn exchange(
     rt: &impl Abort,
     receiver: &mut Bench,

@@ -96,6 +96,7 @@ impl fmt::Display for Refusal {
 impl Error for Refusal {}
 
 // What a told frame gets: nothing, where it is outside the configuration class, or an ACK or a NAK.
+// kept: three outcomes that the law names; in an Option of a Result neither None nor Ok would say what it means
 #[derive(Clone, Copy, Debug, PartialEq, Eq)]
 pub enum Verdict {
     Outside,

@@ -1,12 +1,12 @@
 // Rules: a configuration is judged whole. What fits only together is not refused piece by piece, and what does not fit is named by one item.
 //
-// configuration.rt  what a rule judges
-// traits.rt  the trait of a rule
-// ranges.rt  values within their items' bounds
+// configuration.rt   what a rule judges
+// traits.rt          the trait of a rule
+// ranges.rt          values within their items' bounds
 // need.rt, needs.rt  items that need one another
-// both.rt    two rules together
-// asking.rt  code over any rule
-// bench.rt   the rule of the worked examples
+// both.rt            two rules together
+// asking.rt          code over any rule
+// bench.rt           the rule of the worked examples
 #![tactic(auto)]
 
 mod asking;

@@ -11,6 +11,7 @@ ghost use Rattle.layer.proofs.Stores.{nothing_shows};
 use crate::table::SlotTable;
 use layer::{Absent, Layer, Saver, Store, StoreFault};
 
+// kept: a case for each type of store; an enum of two media in an enum of bare and saved would be taken apart twice at each call
 #[derive(Drop)]
 pub enum AnyStore {
     Slots(SlotTable),

@@ -8,7 +8,8 @@ pub mod calls;
 
 #[derive(Drop)]
 pub struct SlotTable {
-    // kept: fixed memory, since a receiver has no heap once it is made
+    // kept: a setting keeps its slot until it is removed, and a change writes that slot alone, as in a memory that a battery keeps; a vector would
+    // move another setting into it
     slots: [Option<Setting>; 128],
     ghost whole: { length slots ≡ 128 },
     // no two used slots have one key

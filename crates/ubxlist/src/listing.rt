@@ -43,6 +43,7 @@ impl<'a, W: Write> Listing<'a, W> {
 
     // Answers all frames that are whole in what is held. Each has a byte at least, and one answer more finds that none is whole.
     fn answer_all(&mut self) -> anyhow::Result<()> {
+        // kept: a `while let` would have to be shown to end; so there are at most as many answers as bytes, and one
         for _ in 0..=self.receiver.held_count() {
             let place = self.place;
             let answered = self.answer_first()?;
@@ -60,7 +61,7 @@ impl<'a, W: Write> Listing<'a, W> {
     // Takes a whole piece, as much at a time as the receiver has room for.
     fn take_all(&mut self, piece: &[u8]) -> anyhow::Result<()> {
         let mut rest = piece;
-        // kept: the receiver says how much it takes, so no iterator of the library yields the parts
+        // kept: a `while` would have to be shown to end, by what each take takes; so a piece has at most as many takes as bytes
         for _ in 0..piece.len() {
             if rest.is_empty() {
                 break;

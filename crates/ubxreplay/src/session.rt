@@ -12,12 +12,8 @@ use std::alloc::{AllocError, Global};
 use std::io::Write;
 use std::{io, mem};
 
-// A line behind make that is answered.
-#[derive(Drop)]
-enum Step {
-    Call(OwnCall),
-    Fault(ErrorLine),
-}
+// A line behind make that is answered: a call, or what is wrong with the line.
+type Step = Result<OwnCall, ErrorLine>;
 
 #[derive(Drop)]
 pub struct Session<'a, W> {
@@ -57,7 +53,7 @@ impl<'a, W: Write> Session<'a, W> {
             }
             (Command::SetUp(part), None) => self.set_up(part),
             (Command::Make, None) => self.make(),
-            (Command::Call(call), Some(steps)) => Ok(steps.push(Step::Call(call))?),
+            (Command::Call(call), Some(steps)) => Ok(steps.push(Ok(call))?),
             (Command::Call(_), None) => self.refuse(number, LineFault::CallBeforeMake),
             (_, Some(_)) => self.refuse(number, LineFault::SetUpAfterMake),
         }
@@ -66,7 +62,7 @@ impl<'a, W: Write> Session<'a, W> {
     fn refuse(&mut self, number: usize, fault: LineFault) -> anyhow::Result<()> {
         let line = ErrorLine { number, fault };
         match &mut self.steps {
-            Some(steps) => steps.push(Step::Fault(line))?,
+            Some(steps) => steps.push(Err(line))?,
             None => self.out.writeln(line)?,
         }
         Ok(())
@@ -149,16 +145,11 @@ fn answer_steps<W: Write>(
 
 // The calls among the steps.
 fn calls_of<'a>(heap: Global, steps: &'a [Step]) -> Result<Vec<Call<'a>>, AllocError> {
-    steps.iter().filter_map(|step| step.call()).collect(heap)
-}
-
-impl Step {
-    fn call(&self) -> Option<Call<'_>> {
-        match self {
-            Step::Call(call) => Some(call.into()),
-            Step::Fault(_) => None,
-        }
-    }
+    steps
+        .iter()
+        .filter_map(|step| step.as_ref().ok())
+        .map(Call::from)
+        .collect(heap)
 }
 
 // The log has one event for each call.
@@ -166,8 +157,8 @@ fn print_steps<W: Write>(out: &mut W, steps: &[Step], log: &[Event<'_>]) -> anyh
     let mut events = log.iter();
     for step in steps {
         match step {
-            Step::Fault(line) => out.writeln(*line)?,
-            Step::Call(_) => {
+            Err(line) => out.writeln(*line)?,
+            Ok(_) => {
                 let event = events.next().context("the log ends before the calls do")?;
                 out.writeln(EventLine(event))?;
             }

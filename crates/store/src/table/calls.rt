@@ -19,7 +19,7 @@ impl SlotTable {
     }
 
     // Another table that holds the same, to try a change on.
-    // kept: a table is not `Copy`, so that no change is made to a copy unseen, and beside ghost fields no `Clone` is derived without `Copy`
+    // kept: `clone` may find no memory, and this cannot; nor is a table `Copy`, so that no change is made to a copy unseen
     pub fn copied(&self) -> SlotTable
         ensures { settings_of result.slots ≡ settings_of self.now.slots }
     {
