@@ -80,10 +80,10 @@ fn a_log_has_an_event_for_each_call(rt: HostRuntime) -> Result<(), Fail> {
         return Err(Fail::new("a buffer that is too short was not refused"));
     };
     assert_eq!(rt; fault.number(), 9);
-    let Event::Answered(answered, _) = &done.log[2] else {
+    let Event::Answered(answering) = &done.log[2] else {
         return Err(Fail::new("an answering was not logged"));
     };
-    assert_eq!(rt; noise_of(*answered)?, 2);
+    assert_eq!(rt; noise_of(answering.answered)?, 2);
     assert_eq!(rt; done.receiver.look(RAM, ADDRESS)?, Some(65));
     Ok(())
 }

@@ -12,7 +12,7 @@ use Rattle.replay.specs.declared.unlogged.Unlogged.TheVariants.{Refused as WasRe
 
 abbrev pub event_of : Event → Happened
 event_of (Took piece n) = took piece.now n
-event_of (Answered a written) = event_told a.noise a.told (vec_items written)
+event_of (Answered a) = event_told a.answered.noise a.answered.told (vec_items a.written)
 event_of (Looked layer key value) = looked layer key value
 event_of (Restarted battery fault) = restarted battery fault
 event_of (Refused call fault) = refused (asking_of call) fault

@@ -10,5 +10,5 @@ mod event;
 mod replaying;
 mod unlogged;
 
-pub use event::Event;
+pub use event::{Answering, Event};
 pub use replaying::{Replayed, replay};

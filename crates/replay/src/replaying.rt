@@ -5,7 +5,7 @@ ghost use Rattle.reference.specs.Receiver.{run_from};
 ghost use Rattle.receiver.specs.State.{items_of, Kept};
 ghost use Rattle.replay.specs.Logs.{event_of, run_of, LoggedAs, Replays};
 
-use crate::event::Event;
+use crate::event::{Answering, Event};
 use crate::unlogged::Unlogged;
 use catalogue::Entry;
 use layer::Store;
@@ -40,7 +40,7 @@ impl<B: Store + Drop, F: Store + Drop, R: Rule + Drop> Replaying<B, F, R> {
         let out = &mut buffer[0..room.min(ANSWER_ROOM)];
         let answered = self.receiver.answer(out)?;
         let written = Vec::from_slice(self.heap, &out[0..answered.length()])?;
-        Ok(Event::Answered(answered, written))
+        Ok(Event::Answered(Answering { answered, written }))
     }
 
     // Carries out a call, and makes its event. A refusal is passed on, and has none yet.

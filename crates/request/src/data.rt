@@ -75,7 +75,7 @@ impl ItemChanges {
     {
         let pair = read_pair(bytes).ok_or(EntryFault::Cut)?;
         let item = find_item(catalogue.entries(), pair.key).ok_or(EntryFault::Unknown)?;
-        self.set(item, Change::Put(pair.value));
+        self.set(item, Some(Change::Put(pair.value)));
         Ok(pair.len)
     }
 
@@ -87,7 +87,7 @@ impl ItemChanges {
         let mut named = false;
         for (item, entry) in catalogue.entries().iter().enumerate() {
             if selector.names(entry.key) {
-                self.set(item, Change::Remove);
+                self.set(item, Some(Change::Remove));
                 named = true;
             }
         }

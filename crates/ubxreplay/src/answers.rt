@@ -1,8 +1,8 @@
 // The lines that answer the commands.
 use catalogue::CatalogueFault;
 use layer::StoreFault;
-use reference::{Answered, Call, CallFault, PartsFault, Refusal, Telling, Verdict};
-use replay::Event;
+use reference::{Call, CallFault, PartsFault, Refusal, Telling, Verdict};
+use replay::{Answering, Event};
 use script::LineFault;
 use std::fmt;
 
@@ -73,7 +73,7 @@ impl<'a, 'b> fmt::Display for EventLine<'a, 'b> {
     fn fmt<W: fmt::Write>(&self, f: &mut fmt::Formatter<W>) -> fmt::Result {
         match self.0 {
             Event::Took(_, count) => write!(f, "take {count}"),
-            Event::Answered(answered, written) => show_answered(f, answered, written.as_slice()),
+            Event::Answered(answering) => show_answering(f, answering),
             Event::Looked(_, _, Some(value)) => write!(f, "look {value}"),
             Event::Looked(_, _, None) => f.write_str("look none"),
             Event::Restarted(_, None) => f.write_str("restart fit"),
@@ -98,16 +98,15 @@ fn show_refused<W: fmt::Write>(
     write!(f, "{name} refused {number}")
 }
 
-fn show_answered<W: fmt::Write>(
+fn show_answering<W: fmt::Write>(
     f: &mut fmt::Formatter<W>,
-    answered: &Answered,
-    written: &[u8],
+    answering: &Answering,
 ) -> fmt::Result {
-    let noise = answered.noise;
+    let noise = answering.answered.noise;
     write!(f, "answer noise {noise} ")?;
-    match &answered.told {
+    match &answering.answered.told {
         None => f.write_str("nothing"),
-        Some(telling) => show_telling(f, telling, written),
+        Some(telling) => show_telling(f, telling, answering.written.as_slice()),
     }
 }
 

@@ -23,11 +23,11 @@ impl ItemChanges {
     }
 
     // One item changes so; an item beyond the 128th is passed over.
-    pub fn set(&mut self, item: usize, change: Change)
-        ensures { self.new.slots ≡ slice_set self.old.slots item (Some change) }
+    pub fn set(&mut self, item: usize, change: Option<Change>)
+        ensures { self.new.slots ≡ slice_set self.old.slots item change }
     {
         if item < 128 {
-            self.slots[item] = Some(change);
+            self.slots[item] = change;
         }
     }
 
