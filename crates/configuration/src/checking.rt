@@ -39,6 +39,7 @@ fn check_behind<B: Store, F: Store, R: Rule>(
 
 // The check of the parts: the first fault, in the order of the refusals' numbers.
 // kept: public, and lends each part where it stands: ubxreplay checks two stores that stay in its set-up, which no `Parts` could own
+#[tactic(auto, using(crate::proofs::Refused::accepted), unfolding(reference::specs::Parts::parts_fault))]
 pub fn check<B: Store, F: Store, R: Rule>(
     entries: &[Entry],
     bbr: &B,
