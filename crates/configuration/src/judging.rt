@@ -1,10 +1,11 @@
 // One value for each item, and what a rule finds in them.
-ghost use Rattle.std.specs.Prelude.{◌≡◌, map, length, take};
+ghost use Rattle.std.specs.Prelude.{◌≡◌, map};
 ghost use Rattle.catalogue.specs.Owned.{entries_of};
 ghost use Rattle.reference.specs.Receiver.{configuration};
 ghost use Rattle.configuration.specs.Meaning.{item_value};
 
 use crate::meaning::StoreMeaning;
+use arrayvec::ArrayVec;
 use catalogue::{Catalogue, Entry};
 use layer::{Layer, Store};
 use rule::{Configuration, Rule};
@@ -16,23 +17,25 @@ fn value_in<S: Store>(store: &S, entry: &Entry) -> u64
     store.value(entry.key).unwrap_or(entry.default)
 }
 
-// The configuration that a store gives: a value for each item, and behind them none that is read.
-fn values_in<S: Store>(catalogue: &Catalogue, store: &S) -> [u64; 128]
-    ensures row { take (length (entries_of catalogue.now)) result ≡ map (item_value (⟦<S as StoreMeaning>⟧.store store.now)) (entries_of catalogue.now) }
-    ensures len { length result ≡ 128 }
+// The configuration that a store gives: a value for each item.
+fn values_in<S: Store>(catalogue: &Catalogue, store: &S) -> ArrayVec<u64, 128>
+    ensures { result.items ≡ map (item_value (⟦<S as StoreMeaning>⟧.store store.now)) (entries_of catalogue.now) }
 {
-    let entries = catalogue.entries();
-    std::array::from_fn(|item| entries.get(item).map_or(0, |entry| value_in(store, entry)))
+    let mut values = ArrayVec::new();
+    for entry in catalogue.entries() {
+        values.push(value_in(store, entry));
+    }
+    values
 }
 
 // The item at fault in the configuration that a store gives: none where the rule finds it fit.
+#[tactic(auto, using(crate::proofs::Rows::configuration_map))]
 pub fn fault_in<S: Store, R: Rule>(catalogue: &Catalogue, store: &S, rule: &R) -> Option<usize>
     ensures { result ≡ R.Rule.finding rule.now (entries_of catalogue.now) (configuration (entries_of catalogue.now) (⟦<S as StoreMeaning>⟧.store store.now)) }
 {
-    let entries = catalogue.entries();
     let values = values_in(catalogue, store);
     rule.find(Configuration {
-        entries,
-        values: &values[0..entries.len()],
+        entries: catalogue.entries(),
+        values: values.as_slice(),
     })
 }

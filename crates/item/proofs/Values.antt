@@ -1,5 +1,5 @@
 -- Laws of little-endian numbers, over any width.
-use Rattle.std.proofs.Common.{◌≡◌, ℕ, zero, suc, ◌+◌, ◌-◌, ◌*◌, ◌/◌, ◌%◌, ◌^◌, ◌<◌, ◌≤◌, true, leb, List, [], ◌∷◌, ◌++◌, length, get_or, take, drop, replicate, w64, Some, sym, refl, ap, ◌∙◌, subst, arith}
+use Rattle.std.proofs.Common.{◌≡◌, ℕ, zero, suc, ◌+◌, ◌-◌, ◌*◌, ◌/◌, ◌%◌, ◌^◌, ◌<◌, ◌≤◌, true, leb, List, [], ◌∷◌, ◌++◌, length, get_or, take, drop, replicate, w32, w64, Some, sym, refl, ap, ◌∙◌, subst, arith}
 use Rattle.std.specs.Int.{from_le_bytes, to_le_bytes, bytes_low_first, byte_at}
 use Rattle.std.proofs.Math.Nat.{div-div-eq-div-mul, pow-suc}
 use Rattle.std.proofs.lemmas.Nat.{pow-add}
@@ -85,7 +85,10 @@ low_first i (suc k) n m e =
     byte_is zero n m e = omega arith
     byte_is (suc i) n m e = ap (λ x. x % 256) (sym e)
 
-value_bytes_le : (s : Size) (n : ℕ) → take (width_of s) (to_le_bytes w64 n) ≡ bytes_of (width_of s) n
+pub key_bytes_le : (k : ℕ) → to_le_bytes w32 k ≡ bytes_of 4 k
+key_bytes_le k = low_first 0 4 k k (omega arith)
+
+pub value_bytes_le : (s : Size) (n : ℕ) → take (width_of s) (to_le_bytes w64 n) ≡ bytes_of (width_of s) n
 value_bytes_le Bit n = low_first 0 1 n n (omega arith)
 value_bytes_le One n = low_first 0 1 n n (omega arith)
 value_bytes_le Two n = low_first 0 2 n n (omega arith)

@@ -1,7 +1,7 @@
 // Pages: the reply to a get, which lists what a layer holds under the keys that the request names.
 //
 // entry.rt   the keys and selectors of a get, one entry after the other
-// pair.rt    a pair of key and value, written into a buffer
+// pair.rt    a pair of key and value
 // draft.rt   a page's payload while it is built
 // answer.rt  the page's frame, written into a caller's buffer
 #![tactic(auto)]

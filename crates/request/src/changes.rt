@@ -8,7 +8,8 @@ pub mod calls;
 
 #[derive(Clone, Copy)]
 pub struct ItemChanges {
-    // kept: fixed memory, since a receiver has no heap once it is made
+    // kept: fixed memory, since a receiver has no heap once it is made; each item has its slot at its place, so a vector would be as long, with None
+    // in most slots
     slots: [Option<Change>; 128],
     ghost whole: { length slots ≡ 128 },
 }

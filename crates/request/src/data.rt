@@ -108,6 +108,7 @@ impl ItemChanges {
     }
 
     // Takes the entry at the front of a request's data: of a set a pair, else a key or selector.
+    // kept: the ID is asked at each entry; a function that is chosen once would be handed on and called through, and say no more
     fn take_entry(
         &mut self,
         catalogue: &Catalogue,

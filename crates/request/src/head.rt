@@ -10,7 +10,8 @@ use reference::{Layers, Refusal};
 // The class of the three requests, and their IDs.
 pub const CONFIGURATION_CLASS: u8 = 0x06;
 
-// kept: an ID goes back onto the wire in the verdict, and an enum with a case for every other byte would be turned back into the byte each time
+// kept: a `Request` is public and takes any ID, and `layers`, `action` and `read_data` promise something of each; an enum of the three would ask more
+// of the caller
 pub const VALSET: u8 = 0x8a;
 
 pub const VALGET: u8 = 0x8b;
@@ -35,6 +36,7 @@ pub fn byte_at(payload: &[u8], place: usize) -> u8
 }
 
 // Whether two choices of layers are the same.
+// kept: public, and the word of the definitions for what `==` of the derive says
 pub fn same_layers(a: Layers, b: Layers) -> bool
     ensures { result ≡ same_layers a b }
 {

@@ -1,8 +1,20 @@
 -- Laws of numbers in text.
-use Rattle.std.proofs.Common.{◌≡◌, ℕ, ◌+◌, ◌*◌, ◌<◌, ◌≤◌, min, List, [], ◌∷◌, length, get_or, drop, Some, None, Option, sym, refl, ap, ◌∙◌, inl, inr, mul-le-mul_left, arith}
+use Rattle.std.proofs.Common.{◌≡◌, ℕ, ◌+◌, ◌*◌, ◌<◌, ◌≤◌, min, cond, List, [], ◌∷◌, length, get_or, drop, Some, None, Option, sym, refl, ap, ◌∙◌, inl, inr, mul-le-mul_left, arith}
 use Rattle.std.proofs.lemmas.List.{drop_more, drop_all}
 use Rattle.std.proofs.lemmas.Bool.{cases_lt}
+use Rattle.std.proofs.lemmas.Bool.Decides.{nat_tests}
+use Rattle.std.specs.Char.{digit_value}
+use Rattle.std.specs.Prelude.{SomeIff, nat_lt}
 use Rattle.script.specs.Numbers.{and_then, digit_in, followed_by, capped}
+
+-- The library's reading of a digit is that of the definitions
+
+digit_is : (base b : ℕ) → 2 ≤ base → base ≤ 16 → digit_in base b ≡ cond (nat_lt (digit_value b) base) (Some (digit_value b)) None
+digit_is base b some few = grind (arith, nat_tests)
+
+pub digit_read : (base b : ℕ) (o : Option ℕ) → 2 ≤ base → base ≤ 16 → SomeIff o (digit_value b < base) (digit_value b) → o ≡ digit_in base b
+digit_read base b None some few is = grind (arith, nat_tests, digit_is)
+digit_read base b (Some d) some few is = grind (arith, nat_tests, digit_is)
 
 -- two numbers that are one, or that both reach the most, stay so as a digit follows
 digit_capped : (most base a b d : ℕ) → 1 ≤ base → min most a ≡ min most b → min most (a * base + d) ≡ min most (b * base + d)

@@ -40,6 +40,8 @@ pub enum Part {
 }
 
 // A call of a receiver. It has the bytes of its piece.
+// kept: a `Call` of the reference lends its bytes, and the definitions name it; a call of a script owns them until all lines are read. One type for
+// both would carry a parameter for its bytes to every place that names a call
 #[derive(Drop)]
 pub enum OwnCall {
     Take(Vec<u8>),

@@ -1,7 +1,7 @@
 // Numbers in text: hexadecimal and decimal digits, with no sign, no prefix and nothing between them.
 ghost use Rattle.std.specs.Prelude.{◌≡◌, ◌-◌, ◌^◌, ◌<◌, ◌≤◌, Some};
 ghost use Rattle.std.specs.Result.{result_ok, result_unwrap_or};
-ghost use Rattle.script.specs.Numbers.{digit_of, digit_in, followed_by, number_in, up_to, capped, Converted};
+ghost use Rattle.script.specs.Numbers.{digit_in, followed_by, number_in, up_to, capped, Converted};
 ghost use Rattle.script.specs.Bases.{digits_of};
 
 // The base of a number's digits.
@@ -11,39 +11,26 @@ enum Base {
     Hexadecimal = 16,
 }
 
-// Counting stops here: no number of a script is as great.
+// Counting stops here: a number that is as great, or greater, is too great for every type, and stands as this one.
 const CAP: u128 = 1 << 64;
-
-// What a digit is worth, of either case.
-fn digit_of(byte: u8) -> Option<u8>
-    ensures { result ≡ digit_of byte }
-{
-    match byte {
-        b'0'..=b'9' => Some(byte - b'0'),
-        b'a'..=b'f' => Some(byte - b'a' + 10),
-        b'A'..=b'F' => Some(byte - b'A' + 10),
-        _ => None,
-    }
-}
 
 impl Base {
     // How many digits it has.
-    fn digits(self) -> u128
+    fn digits(self) -> u32
         ensures value { result ≡ digits_of self }
-        ensures some { 1 ≤ result }
+        ensures some { 2 ≤ result }
         ensures few { result ≤ 16 }
     {
-        self as u128
+        self as u32
     }
 }
 
-// What a digit of this base is worth.
-fn digit_in(base: Base, byte: u8) -> Option<u128>
+// What a digit of this base is worth, of either case.
+#[tactic(auto, using(crate::proofs::Numbers::digit_read))]
+fn digit_in(base: Base, byte: u8) -> Option<u32>
     ensures { result ≡ digit_in (digits_of base) byte }
 {
-    digit_of(byte)
-        .map(u128::from)
-        .filter(|digit| *digit < base.digits())
+    (byte as char).to_digit(base.digits())
 }
 
 // The number that all digits make, and the cap in place of any above it.
@@ -53,7 +40,8 @@ fn digits_in(base: Base, digits: &[u8]) -> Option<u128>
 {
     let mut number = 0u128;
     for byte in digits {
-        number = (number * base.digits() + digit_in(base, *byte)?).min(CAP);
+        let digit = digit_in(base, *byte)?;
+        number = (number * base.digits() as u128 + digit as u128).min(CAP);
     }
     Some(number)
 }

@@ -50,8 +50,14 @@ fn read_command(heap: Global, name: &str, words: &[&str]) -> Result<Command, Lin
         "restart" => restarting(words).map(Command::Call),
         "words" => Err(LineFault::NotBuilt("words")),
         "inspect" => Err(LineFault::NotBuilt("inspect")),
-        "read" => Err(LineFault::NotBuilt("the host end")),
-        _ if name.starts_with("host") => host_command(name),
+        "read"
+        | "hostset"
+        | "hostdel"
+        | "hostget"
+        | "hostbegin"
+        | "hostadd"
+        | "hostapply"
+        | "hostabandon" => Err(LineFault::NotBuilt("the host end")),
         _ => read_part(name, words).map(Command::SetUp),
     }
 }
@@ -60,14 +66,6 @@ fn alone(words: &[&str], command: Command) -> Result<Command, LineFault> {
     match words {
         [] => Ok(command),
         _ => Err(LineFault::Form(ALONE)),
-    }
-}
-
-fn host_command(name: &str) -> Result<Command, LineFault> {
-    match name {
-        "hostset" | "hostdel" | "hostget" | "hostbegin" | "hostadd" | "hostapply" | "hostabandon" =>
-            Err(LineFault::NotBuilt("the host end")),
-        _ => Err(LineFault::UnknownCommand),
     }
 }
 

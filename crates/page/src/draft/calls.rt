@@ -8,10 +8,10 @@ ghost use Rattle.reference.specs.Receiver.{pair_bytes};
 ghost use Rattle.page.specs.Drafts.{payload_of, finished, finished_by};
 
 use super::Draft;
-use crate::pair::{MAX_PAIR, Pair};
+use crate::pair::Pair;
 use arrayvec::ArrayVec;
 use catalogue::Entry;
-use item::Selector;
+use item::{Selector, size_of};
 use layer::{Layer, Setting};
 
 // The version of a reply.
@@ -48,17 +48,22 @@ impl Draft {
         self.bytes.as_slice()
     }
 
-    // Writes a pair behind the others.
-    #[tactic(auto, using(crate::proofs::Pairs::take_patched))]
+    // Writes a pair behind the others: the key, then as many bytes of the value as its size has.
+    #[tactic(auto, using(crate::proofs::Pairs::has_size, crate::proofs::Pairs::width_few, crate::proofs::Pairs::pair_stands))]
     fn put(&mut self, pair: &Pair)
         requires room { 0 < self.old.left }
         ensures after { payload_of self.new ≡ payload_of self.old ++ pair_bytes pair.now.setting }
         ensures left { self.new.left ≡ self.old.left - 1 }
         ensures skip { self.new.skip ≡ self.old.skip }
     {
-        let mut bytes = [0u8; MAX_PAIR];
-        let len = pair.write(&mut bytes);
-        self.bytes.try_extend_from_slice(&bytes[0..len]).unwrap();
+        let Setting { key, value } = pair.setting;
+        let width = size_of(key).unwrap().width();
+        self.bytes
+            .try_extend_from_slice(&key.to_le_bytes())
+            .unwrap();
+        self.bytes
+            .try_extend_from_slice(&value.to_le_bytes()[0..width])
+            .unwrap();
         self.left -= 1;
     }
 

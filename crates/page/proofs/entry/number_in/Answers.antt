@@ -3,7 +3,7 @@ use Rattle.item.specs.Selectors.{selector_of}
 use Rattle.catalogue.specs.Owned.{entries_of}
 use Rattle.catalogue.specs.Catalogues.{NextNamed}
 use Rattle.request.specs.Keys.{key_in}
-use Rattle.page.proofs.Walks.{entry_many, entry_cut, entry_unknown, entry_known}
+use Rattle.page.proofs.Walks.{entry_known}
 use Rattle.page.proofs.entry.number_in.Goals as goal
 
 pub returns : goal.returns
