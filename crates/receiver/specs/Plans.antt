@@ -2,15 +2,17 @@
 use Rattle.std.specs.Prelude.{◌≡◌, ℕ, ◌+◌, ◌≤◌, cond, List, [], length, take, Some, None, Ok, Err, Option, Result, ◌==◌, nat_lt, slice_index}
 use Rattle.rule.specs.Rules.{Finding}
 use Rattle.reference.specs.declared.layers.Layers.{Layers}
-use Rattle.reference.specs.Requests.{Catalogue, Changes, and_later}
+use Rattle.reference.specs.Requests.{Catalogue, Changes, and_later, configuration_class}
 use Rattle.catalogue.specs.declared.entries.Entry.{Entry}
 use Rattle.request.specs.Changes.{changes_by}
+use Rattle.request.specs.declared.head.Request.{Request}
 use Rattle.reference.specs.declared.refusal.Refusal.{Refusal}
 use Rattle.reference.specs.declared.refusal.Refusal.TheVariants.{UnknownVersion, WrongLayer}
 use Rattle.reference.specs.declared.refusal.Verdict.{Verdict}
 use Rattle.reference.specs.declared.refusal.Verdict.TheVariants.{Ack, Nak}
 use Rattle.reference.specs.declared.answered.Telling.{Telling}
 use Rattle.reference.specs.Stores.{Settings}
+use Rattle.frame.specs.Frames.{Message, carrying}
 use Rattle.frame.specs.Written.{in_front}
 use Rattle.page.specs.Pages.{page_bytes}
 use Rattle.reference.specs.Receiver.{State, with_transaction, applied, apply, queue, reply, layer_of, apply_fault, applying, queue_of}
@@ -21,6 +23,10 @@ use Rattle.receiver.specs.declared.transaction.Plan.{Plan}
 use Rattle.receiver.specs.declared.transaction.Plan.TheVariants.{Apply, Queue}
 use Rattle.receiver.specs.declared.first.HeldFrame.{HeldFrame}
 use Rattle.receiver.specs.State.{opened_of}
+
+-- the message of a request that is heard
+abbrev pub request_message : Request → Message
+request_message r = carrying configuration_class r.id r.payload.now
 
 abbrev pub plan_of : List Entry → Plan → Planned
 plan_of es (Apply c) = apply c.layers (changes_by es c.items.slots)

@@ -1,15 +1,14 @@
 // Judging a frame of the configuration class. Nothing is changed here but the buffer, into which a reply is written; what is to be done
 // comes back as a plan.
 ghost use Rattle.std.specs.Prelude.{◌≡◌, ◌≤◌, ◌||◌, length, if◌then◌else◌, ◌==◌, nat_eq};
-ghost use Rattle.frame.specs.Frames.{carrying};
 ghost use Rattle.request.specs.Changes.{changes_by};
 ghost use Rattle.request.specs.Actions.{action_number};
 ghost use Rattle.request.specs.Head.{opened_layers};
-ghost use Rattle.reference.specs.Requests.{configuration_class, valset, valget, valdel, and_later};
+ghost use Rattle.reference.specs.Requests.{valset, valget, valdel, and_later};
 ghost use Rattle.reference.specs.Receiver.{apply_fault, applying, queue_of, planned, judged_change, judged_get, judged};
 ghost use Rattle.std.specs.Option.{option_map};
 ghost use Rattle.receiver.specs.State.{opened_of, items_of};
-ghost use Rattle.receiver.specs.Plans.{judgement_of, planned_with, Judged};
+ghost use Rattle.receiver.specs.Plans.{request_message, judgement_of, planned_with, Judged};
 
 use super::Receiver;
 use super::handling::ANSWER_ROOM;
@@ -89,7 +88,7 @@ impl<B: Store, F: Store, R: Rule> Receiver<B, F, R> {
 
     // What an action does with the data of its frame and those queued. Closing does not read its own.
     fn plan(&self, request: &Request<'_>, layers: Layers, action: Action) -> Result<Plan, Refusal>
-        ensures { judgement_of (items_of self.now) result ≡ planned (items_of self.now) (R.Rule.finding self.now.rule) (⟦<Self as Meaning>⟧.state self.now) (carrying configuration_class request.now.id request.now.payload.now) layers (action_number action) }
+        ensures { judgement_of (items_of self.now) result ≡ planned (items_of self.now) (R.Rule.finding self.now.rule) (⟦<Self as Meaning>⟧.state self.now) (request_message request.now) layers (action_number action) }
     {
         if let Action::Close = action {
             let items = self.queue();
@@ -101,7 +100,7 @@ impl<B: Store, F: Store, R: Rule> Receiver<B, F, R> {
 
     // A set or a delete.
     fn judge_change(&self, request: &Request<'_>) -> Result<Plan, Refusal>
-        ensures { judgement_of (items_of self.now) result ≡ judged_change (items_of self.now) (R.Rule.finding self.now.rule) (⟦<Self as Meaning>⟧.state self.now) (carrying configuration_class request.now.id request.now.payload.now) }
+        ensures { judgement_of (items_of self.now) result ≡ judged_change (items_of self.now) (R.Rule.finding self.now.rule) (⟦<Self as Meaning>⟧.state self.now) (request_message request.now) }
     {
         let usable = self.layers.upper.lower.is_usable();
         request.check_head(usable, self.opened_layers())?;
@@ -122,7 +121,7 @@ impl<B: Store, F: Store, R: Rule> Receiver<B, F, R> {
         out: &mut [u8; ANSWER_ROOM],
     ) -> Result<Granted, Refusal>
         requires long { 4 ≤ length request.now.payload.now }
-        ensures { Judged (items_of self.now) out.old out.new (if nat_eq request.now.id valget then judged_get (items_of self.now) (⟦<Self as Meaning>⟧.state self.now) (carrying configuration_class request.now.id request.now.payload.now) else judged_change (items_of self.now) (R.Rule.finding self.now.rule) (⟦<Self as Meaning>⟧.state self.now) (carrying configuration_class request.now.id request.now.payload.now)) result }
+        ensures { Judged (items_of self.now) out.old out.new (if nat_eq request.now.id valget then judged_get (items_of self.now) (⟦<Self as Meaning>⟧.state self.now) (request_message request.now) else judged_change (items_of self.now) (R.Rule.finding self.now.rule) (⟦<Self as Meaning>⟧.state self.now) (request_message request.now)) result }
     {
         if request.id == VALGET {
             let length = self.judge_get(request.payload, out)?;
@@ -139,7 +138,7 @@ impl<B: Store, F: Store, R: Rule> Receiver<B, F, R> {
         request: &Request<'_>,
         out: &mut [u8; ANSWER_ROOM],
     ) -> Result<Granted, Refusal>
-        ensures { Judged (items_of self.now) out.old out.new (judged (items_of self.now) (R.Rule.finding self.now.rule) (⟦<Self as Meaning>⟧.state self.now) (carrying configuration_class request.now.id request.now.payload.now)) result }
+        ensures { Judged (items_of self.now) out.old out.new (judged (items_of self.now) (R.Rule.finding self.now.rule) (⟦<Self as Meaning>⟧.state self.now) (request_message request.now)) result }
     {
         if !is_request(request.id) {
             return Err(Refusal::OtherId);
