@@ -41,9 +41,7 @@ impl<B: Store, F: Store, R: Rule> Receiver<B, F, R> {
         let LayerChange { layers, items } = change;
         let catalogue = &self.layers.lower.catalogue;
         apply_if(layers.ram, catalogue, items, &mut self.ram);
-        let catalogue = &self.layers.lower.catalogue;
         apply_if(layers.bbr, catalogue, items, &mut self.layers.upper.upper);
-        let catalogue = &self.layers.lower.catalogue;
         apply_if(layers.flash, catalogue, items, &mut self.layers.upper.lower);
         self.transaction = None;
     }
