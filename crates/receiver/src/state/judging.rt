@@ -22,7 +22,7 @@ use request::{Action, HEAD, ItemChanges, Request, VALDEL, VALGET, VALSET};
 use rule::Rule;
 
 // Whether an ID is that of one of the three requests.
-// kept: a frame of any other ID is judged too, and refused, so its ID is a byte and no enum of the three
+// kept: `Request` is public and takes any ID, since `layers`, `action` and `read_data` promise something of each; so the ID is a byte here too
 fn is_request(id: u8) -> bool
     ensures { result ≡ (id == valset || (id == valget || id == valdel)) }
 {
