@@ -1,9 +1,10 @@
 // A receiver. It owns all that it stands on: the stores, one over the other over the defaults of its catalogue, and the rule.
 use crate::transaction::Transaction;
+use configuration::Pile;
 use held::Held;
-use layer::{Stack, Store};
+use layer::Store;
 use rule::Rule;
-use store::{Defaults, SlotTable};
+use store::SlotTable;
 
 pub mod calls;
 pub mod carrying;
@@ -24,7 +25,7 @@ pub struct Receiver<B: Store, F: Store, R: Rule> {
     // what was taken and not dropped yet
     held: Held,
     // BBR over Flash over the defaults
-    layers: Stack<Stack<B, F>, Defaults>,
+    layers: Pile<B, F>,
     rule: R,
     ram: SlotTable,
     transaction: Option<Transaction>,

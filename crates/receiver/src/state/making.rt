@@ -11,7 +11,7 @@ ghost use Rattle.receiver.specs.State.{items_of};
 use super::Receiver;
 use super::meaning::{Meaning, PartsMeaning};
 use catalogue::Entry;
-use configuration::{StoreMeaning, check, stack_ram};
+use configuration::{Pile, StoreMeaning, check, stack_ram};
 use held::Held;
 use layer::{Stack, Store};
 use rule::Rule;
@@ -25,11 +25,7 @@ pub struct Parts<B, F, R> {
 }
 
 // RAM as it is stacked, or empty in a shut receiver.
-fn first_ram<B: Store, F: Store, R: Rule>(
-    shut: bool,
-    layers: &Stack<Stack<B, F>, Defaults>,
-    rule: &R,
-) -> SlotTable
+fn first_ram<B: Store, F: Store, R: Rule>(shut: bool, layers: &Pile<B, F>, rule: &R) -> SlotTable
     ensures { settings_of result.slots ≡ (if shut then [] else stacked (entries_of layers.now.lower.catalogue) (R.Rule.finding rule.now) (held (⟦<B as StoreMeaning>⟧.store layers.now.upper.upper)) (held (⟦<F as StoreMeaning>⟧.store layers.now.upper.lower))) }
 {
     if shut {
