@@ -24,5 +24,5 @@ pub use checking::check;
 pub use gathering::gathered;
 pub use judging::fault_in;
 pub use meaning::StoreMeaning;
-pub use stacking::{Stacked, stack_ram};
+pub use stacking::{Pile, Stacked, stack_ram};
 pub use straying::{is_known, stray_key};

@@ -12,6 +12,9 @@ use layer::{Layer, Stack, Store};
 use rule::Rule;
 use store::{Defaults, SlotTable};
 
+// What RAM is stacked from: BBR over Flash over the defaults.
+pub type Pile<B, F> = Stack<Stack<B, F>, Defaults>;
+
 // RAM as it was stacked, and the item at fault where it is the defaults alone.
 #[derive(Drop)]
 pub struct Stacked {
@@ -19,7 +22,7 @@ pub struct Stacked {
     pub fault: Option<usize>,
 }
 
-fn gather_pile<B: Store, F: Store>(pile: &Stack<Stack<B, F>, Defaults>) -> SlotTable
+fn gather_pile<B: Store, F: Store>(pile: &Pile<B, F>) -> SlotTable
     ensures { settings_of result.slots ≡ settings_by (stack_value (held (⟦<B as StoreMeaning>⟧.store pile.now.upper.upper)) (held (⟦<F as StoreMeaning>⟧.store pile.now.upper.lower))) (entries_of pile.now.lower.catalogue) }
 {
     gathered(&pile.lower.catalogue, pile)
@@ -44,10 +47,7 @@ fn unless_unfit(table: SlotTable, fault: Option<usize>, defaults: &Defaults) -> 
 
 // RAM as it stands after making and after a restart.
 #[tactic(auto, using(crate::proofs::Piled::fault_is, crate::proofs::Piled::stacked_is))]
-pub fn stack_ram<B: Store, F: Store, R: Rule>(
-    pile: &Stack<Stack<B, F>, Defaults>,
-    rule: &R,
-) -> Stacked
+pub fn stack_ram<B: Store, F: Store, R: Rule>(pile: &Pile<B, F>, rule: &R) -> Stacked
     ensures ram { settings_of result.ram.slots ≡ stacked (entries_of pile.now.lower.catalogue) (R.Rule.finding rule.now) (held (⟦<B as StoreMeaning>⟧.store pile.now.upper.upper)) (held (⟦<F as StoreMeaning>⟧.store pile.now.upper.lower)) }
     ensures fault { result.fault ≡ stack_fault (entries_of pile.now.lower.catalogue) (R.Rule.finding rule.now) (held (⟦<B as StoreMeaning>⟧.store pile.now.upper.upper)) (held (⟦<F as StoreMeaning>⟧.store pile.now.upper.lower)) }
 {

@@ -1,5 +1,5 @@
 -- What each call comes to in the reference, in the direction of the code's contracts.
-use Rattle.std.proofs.Common.{◌≡◌, ℕ, ◌-◌, ◌<◌, ◌≤◌, min, Bool, true, false, cond, ltb, List, [], ◌++◌, length, take, Some, None, Option, sym, ap, ◌∙◌, subst}
+use Rattle.std.proofs.Common.{◌≡◌, ℕ, ◌-◌, ◌<◌, ◌≤◌, min, Bool, true, false, cond, ltb, List, [], ◌++◌, length, take, Some, None, Ok, Err, Option, Result, sym, refl, ap, ◌∙◌, subst}
 use Rattle.std.proofs.lemmas.Bool.{cond-true, cond-false, lt-ltb, le-ltb}
 use Rattle.rule.specs.Rules.{Finding}
 use Rattle.reference.specs.declared.fault.CallFault.{CallFault}
@@ -16,6 +16,11 @@ use Rattle.reference.specs.Receiver.{State, Stepped, with_held, step, served, ta
 use Rattle.reference.proofs.Verdicts.{writes_fit}
 use Rattle.receiver.proofs.Layers.{named_some, named_none}
 use Rattle.receiver.specs.Handled.{Answering, answering_of}
+
+-- a receiver that the check of being open passed
+pub not_shut : (shut : Bool) → ◌≡◌ {A = Result (Unit {0}) CallFault} (Ok tt) (cond shut (Err Shut) (Ok tt)) → shut ≡ false
+not_shut true e = absurd (cc)
+not_shut false e = refl
 
 module _ (cat : Catalogue) (rule : Finding) (s : State) where
   -- a shut receiver

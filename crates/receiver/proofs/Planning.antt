@@ -1,5 +1,5 @@
 -- What a frame is judged to do, in the direction of the code's contracts.
-use Rattle.std.proofs.Common.{◌≡◌, ℕ, zero, suc, ◌<◌, ◌≤◌, Bool, true, false, List, [], ◌∷◌, replicate, Some, None, Ok, Err, Option, Result, sym, refl, ap, ◌∙◌, ap₂, arith}
+use Rattle.std.proofs.Common.{◌≡◌, ◌⊎◌, inl, inr, ℕ, zero, suc, Bool, true, false, List, [], ◌∷◌, replicate, Some, None, Ok, Err, Option, Result, sym, refl, ap, ◌∙◌, ap₂, arith}
 use mathlib.Core.Path.{fun_ext}
 use Rattle.std.proofs.lemmas.Bool.{cond-true, cond-false}
 use Rattle.std.proofs.lemmas.Bool.Decides.{nat_tests}
@@ -8,8 +8,8 @@ use Rattle.rule.specs.Rules.{Finding}
 use Rattle.reference.specs.declared.refusal.Refusal.{Refusal}
 use Rattle.reference.specs.declared.layers.Layers.{Layers}
 use Rattle.reference.specs.Stores.{Store}
-use Rattle.reference.specs.Requests.{Catalogue, Data, Changes, latest, and_later, ok_map, layers_of, action_of, data_of}
-use Rattle.reference.specs.Receiver.{State, Plan, written, configuration, and_then, apply_fault, applying, queue_of, planned, judged_change}
+use Rattle.reference.specs.Requests.{Catalogue, Changes, latest, and_later, ok_map, layers_of, action_of, data_of}
+use Rattle.reference.specs.Receiver.{State, Plan, queue, written, configuration, and_then, apply_fault, applying, queue_of, planned, judged_change}
 use Rattle.catalogue.specs.declared.entries.Entry.{Entry}
 use Rattle.std.specs.Option.{option_map}
 use Rattle.request.specs.declared.change.Change.{Change}
@@ -19,7 +19,7 @@ use Rattle.request.specs.Actions.{action_number}
 use Rattle.request.specs.Changes.{changes_by}
 use Rattle.receiver.specs.declared.transaction.Transaction.{Transaction}
 use Rattle.receiver.specs.State.{opened_of}
-use Rattle.receiver.specs.Plans.{planned_with}
+use Rattle.receiver.specs.Plans.{changes_for}
 use Rattle.request.specs.Head.{head_refusal, opened_layers, after_head}
 use Rattle.request.proofs.Heads.{judged_change_lem}
 
@@ -42,40 +42,34 @@ none_at (e ∷ es) (suc n) k = let h = none_at es n k in grind (arith, nat_tests
 pub none_queued : (es : List Entry) (cs : List (Option Change)) (t : Option Transaction) → cs ≡ replicate 128 None → t ≡ None → changes_by es cs ≡ queue_of (option_map (opened_of es) t)
 none_queued es cs t e is = ap (changes_by es) e ∙ fun_ext (λ k. none_at es 128 k) ∙ sym (ap (λ o. queue_of (option_map (opened_of es) o)) is)
 
--- What an action does with the data that were read, and with those queued
+-- What an action does with the changes that it is about
 
-read_latest : (r : Result Data Refusal) (d : Changes) (F : Changes → Result Plan Refusal) → Ok d ≡ ok_map latest r → F d ≡ and_then r (λ x. F (latest x))
-read_latest (Ok x) d F e = let same : d ≡ latest x = cc in ap F same
-read_latest (Err x) d F e = let z : ◌≡◌ {A = ℕ} 0 1 = cc in absurd (omega arith)
-
-pub reads_none : (a : Action) → a ≡ Close → 2 < action_number a
-reads_none Apply e = absurd (cc)
-reads_none Open e = absurd (cc)
-reads_none Add e = absurd (cc)
-reads_none Close e = omega arith
-
-pub reads_on : (a : Action) → (a ≡ Close → ⊥) → action_number a ≤ 2
-reads_on Apply not = omega arith
-reads_on Open not = omega arith
-reads_on Add not = omega arith
-reads_on Close not = absurd (not refl)
+and_then_map : {A B C : Type 0} (r : Result A Refusal) (f : A → B) (F : B → Result C Refusal) → and_then r (λ x. F (f x)) ≡ and_then (ok_map f r) F
+and_then_map (Ok x) f F = refl
+and_then_map (Err e) f F = refl
 
 module _ (cat : Catalogue) (rule : Finding) (s : State) (m : Message) (l : Layers) where
-  -- actions 0, 1 and 2 read their data
-  reads : (a : ℕ) → a ≤ 2 → planned cat rule s m l a ≡ and_then (data_of cat m.id m.payload) (λ x. planned_with cat rule s m.id l a (latest x))
-  reads zero le = refl
-  reads (suc zero) le = refl
-  reads (suc (suc zero)) le = refl
-  reads (suc (suc (suc n))) le = absurd (omega arith)
+  abbrev done_with : Action → Changes → Result Plan Refusal
+  done_with Apply d = applying (apply_fault cat rule s l d) l d
+  done_with Open d = Ok (queue (record { kind = m.id; layers = l; queue = d }))
+  done_with Add d = Ok (queue (record { kind = m.id; layers = l; queue = d }))
+  done_with Close d = applying (apply_fault cat rule s l d) l d
 
-  pub plan_read : (a : ℕ) (d : Changes) (r : Result Plan Refusal) → a ≤ 2 → Ok d ≡ ok_map latest (data_of cat m.id m.payload) → r ≡ planned_with cat rule s m.id l a d → r ≡ planned cat rule s m l a
-  plan_read a d r le e f = f ∙ read_latest (data_of cat m.id m.payload) d (planned_with cat rule s m.id l a) e ∙ sym (reads a le)
+  plan_is : (a : Action) → and_then (changes_for cat (queue_of s.transaction) m a) (done_with a) ≡ planned cat rule s m l (action_number a)
+  plan_is Apply = sym (and_then_map (data_of cat m.id m.payload) latest (done_with Apply))
+  plan_is Open = sym (and_then_map (data_of cat m.id m.payload) latest (done_with Open))
+  plan_is Add =
+      sym (and_then_map (ok_map latest (data_of cat m.id m.payload)) (and_later (queue_of s.transaction)) (done_with Add))
+      ∙ sym (and_then_map (data_of cat m.id m.payload) latest (λ d. done_with Add (and_later (queue_of s.transaction) d)))
+  plan_is Close = refl
 
-  pub plan_queued : (a : ℕ) (q : Changes) (r : Result Plan Refusal) → 2 < a → q ≡ queue_of s.transaction → r ≡ applying (apply_fault cat rule s l q) l q → r ≡ planned cat rule s m l a
-  plan_queued zero q r lt is f = absurd (omega arith)
-  plan_queued (suc zero) q r lt is f = absurd (omega arith)
-  plan_queued (suc (suc zero)) q r lt is f = absurd (omega arith)
-  plan_queued (suc (suc (suc n))) q r lt is f = f ∙ ap (λ (x : Changes). applying (apply_fault cat rule s l x) l x) is
+  applied_with : (a : Action) (d : Changes) → (a ≡ Apply) ⊎ (a ≡ Close) → applying (apply_fault cat rule s l d) l d ≡ done_with a d
+  applied_with a d (inl e) = ap (λ (b : Action). done_with b d) (sym e)
+  applied_with a d (inr e) = ap (λ (b : Action). done_with b d) (sym e)
+
+  pub plan_applied : (a : Action) (d : Changes) (r : Result Plan Refusal) → (a ≡ Apply) ⊎ (a ≡ Close) → Ok d ≡ changes_for cat (queue_of s.transaction) m a
+      → r ≡ applying (apply_fault cat rule s l d) l d → r ≡ planned cat rule s m l (action_number a)
+  plan_applied a d r is e f = f ∙ applied_with a d is ∙ ap (λ (c : Result Changes Refusal). and_then c (done_with a)) e ∙ plan_is a
 
 pub later_queue : (z q q' d : Changes) → z ≡ and_later q d → q ≡ q' → z ≡ and_later q' d
 later_queue z q q' d e is = e ∙ ap (λ (x : Changes). and_later x d) is

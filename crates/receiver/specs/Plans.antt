@@ -1,19 +1,21 @@
 -- What a judged frame is to do, as the reference has it.
-use Rattle.std.specs.Prelude.{◌≡◌, ℕ, ◌+◌, ◌≤◌, cond, List, [], length, take, Some, None, Ok, Err, Option, Result, ◌==◌, nat_lt, slice_index}
-use Rattle.rule.specs.Rules.{Finding}
-use Rattle.reference.specs.declared.layers.Layers.{Layers}
-use Rattle.reference.specs.Requests.{Catalogue, Changes, and_later}
+use Rattle.std.specs.Prelude.{◌≡◌, ℕ, ◌+◌, ◌≤◌, cond, List, [], length, take, Some, None, Ok, Err, Option, Result, nat_lt, slice_index}
+use Rattle.reference.specs.Requests.{Catalogue, Changes, latest, and_later, ok_map, data_of, configuration_class}
 use Rattle.catalogue.specs.declared.entries.Entry.{Entry}
 use Rattle.request.specs.Changes.{changes_by}
+use Rattle.request.specs.declared.head.Request.{Request}
+use Rattle.request.specs.declared.action.Action.{Action}
+use Rattle.request.specs.declared.action.Action.TheVariants.{Apply as Applies, Open, Add, Close}
 use Rattle.reference.specs.declared.refusal.Refusal.{Refusal}
 use Rattle.reference.specs.declared.refusal.Refusal.TheVariants.{UnknownVersion, WrongLayer}
 use Rattle.reference.specs.declared.refusal.Verdict.{Verdict}
 use Rattle.reference.specs.declared.refusal.Verdict.TheVariants.{Ack, Nak}
 use Rattle.reference.specs.declared.answered.Telling.{Telling}
 use Rattle.reference.specs.Stores.{Settings}
+use Rattle.frame.specs.Frames.{Message, carrying}
 use Rattle.frame.specs.Written.{in_front}
 use Rattle.page.specs.Pages.{page_bytes}
-use Rattle.reference.specs.Receiver.{State, with_transaction, applied, apply, queue, reply, layer_of, apply_fault, applying, queue_of}
+use Rattle.reference.specs.Receiver.{State, with_transaction, applied, apply, queue, reply, layer_of}
 use Rattle.reference.specs.Receiver.{Plan as Planned}
 use Rattle.receiver.specs.declared.transaction.Granted.{Granted}
 use Rattle.receiver.specs.declared.transaction.Granted.TheVariants.{Change, Reply}
@@ -21,6 +23,10 @@ use Rattle.receiver.specs.declared.transaction.Plan.{Plan}
 use Rattle.receiver.specs.declared.transaction.Plan.TheVariants.{Apply, Queue}
 use Rattle.receiver.specs.declared.first.HeldFrame.{HeldFrame}
 use Rattle.receiver.specs.State.{opened_of}
+
+-- the message of a request that is heard
+abbrev pub request_message : Request → Message
+request_message r = carrying configuration_class r.id r.payload.now
 
 abbrev pub plan_of : List Entry → Plan → Planned
 plan_of es (Apply c) = apply c.layers (changes_by es c.items.slots)
@@ -35,11 +41,12 @@ abbrev pub after_plan : List Entry → State → Plan → State
 after_plan es s (Apply c) = applied es s c.layers (changes_by es c.items.slots)
 after_plan es s (Queue t) = with_transaction s (Some (opened_of es t))
 
--- what an action 0, 1 or 2 comes to with the data of its frame
-abbrev pub planned_with : Catalogue → Finding → State → ℕ → Layers → ℕ → Changes → Result Planned Refusal
-planned_with cat rule s id l a d =
-    cond (a == 0) (applying (apply_fault cat rule s l d) l d)
-    (cond (a == 1) (Ok (queue (record { kind = id; layers = l; queue = d }))) (Ok (queue (record { kind = id; layers = l; queue = and_later (queue_of s.transaction) d }))))
+-- the changes that an action is about, by those queued
+abbrev pub changes_for : Catalogue → Changes → Message → Action → Result Changes Refusal
+changes_for cat queued m Applies = ok_map latest (data_of cat m.id m.payload)
+changes_for cat queued m Open = ok_map latest (data_of cat m.id m.payload)
+changes_for cat queued m Add = ok_map (and_later queued) (ok_map latest (data_of cat m.id m.payload))
+changes_for cat queued m Close = Ok queued
 
 -- A get: the bytes of its reply, or why it is refused
 abbrev pub page_over : Catalogue → Option Settings → List ℕ → Result (List ℕ) Refusal

@@ -27,5 +27,5 @@ pub(crate) fn write_verdict(out: &mut [u8], sign: Sign, id: u8) -> usize
         id: sign as u8,
         payload: &[CONFIGURATION_CLASS, id],
     };
-    write_frame(out, &frame).unwrap_or(0)
+    write_frame(out, &frame).unwrap()
 }

@@ -1,5 +1,6 @@
 // The calls of a receiver.
-ghost use Rattle.std.specs.Prelude.{◌≡◌, length};
+ghost use Rattle.std.specs.Prelude.{◌≡◌, if◌then◌else◌, length, Ok, Err};
+ghost use Rattle.reference.specs.declared.fault.CallFault.TheVariants.{Shut};
 ghost use Rattle.reference.specs.Events.{take_piece, look_at, restart_with};
 ghost use Rattle.reference.specs.Requests.{is_known};
 ghost use Rattle.receiver.specs.State.{items_of, Kept, took_event, looked_event, restarted_event};
@@ -13,6 +14,16 @@ use reference::{Battery, CallFault};
 use rule::Rule;
 
 impl<B: Store, F: Store, R: Rule> Receiver<B, F, R> {
+    // The first check of each call that can be refused: a shut receiver refuses it.
+    pub(crate) fn check_open(&self) -> Result<(), CallFault>
+        ensures { result ≡ (if self.now.shut then Err Shut else Ok tt) }
+    {
+        if self.shut {
+            return Err(CallFault::Shut);
+        }
+        Ok(())
+    }
+
     // Takes bytes from the front of a piece until it ends or 780 are held; answers how many.
     #[tactic(auto, using(crate::proofs::Calls::by_taking))]
     pub fn take(&mut self, piece: &[u8]) -> Result<usize, CallFault>
@@ -20,9 +31,7 @@ impl<B: Store, F: Store, R: Rule> Receiver<B, F, R> {
         ensures event { took_event piece.now result ≡ (⟦<Self as Meaning>⟧.step self.old (take_piece piece.now)).event }
         ensures kept { Kept self.old self.new }
     {
-        if self.shut {
-            return Err(CallFault::Shut);
-        }
+        self.check_open()?;
         Ok(self.held.append(piece))
     }
 
@@ -45,9 +54,7 @@ impl<B: Store, F: Store, R: Rule> Receiver<B, F, R> {
     pub fn look(&self, layer: u8, key: u32) -> Result<Option<u64>, CallFault>
         ensures { looked_event layer key result ≡ (⟦<Self as Meaning>⟧.step self.now (look_at layer key)).event }
     {
-        if self.shut {
-            return Err(CallFault::Shut);
-        }
+        self.check_open()?;
         let layer = self.layer(layer).ok_or(CallFault::WrongLayer)?;
         if !self.knows(key) {
             return Err(CallFault::UnknownKey);
@@ -63,9 +70,7 @@ impl<B: Store, F: Store, R: Rule> Receiver<B, F, R> {
         ensures event { restarted_event battery result ≡ (⟦<Self as Meaning>⟧.step self.old (restart_with battery)).event }
         ensures kept { Kept self.old self.new }
     {
-        if self.shut {
-            return Err(CallFault::Shut);
-        }
+        self.check_open()?;
         after_battery(battery, &mut self.layers.upper.upper);
         let stacked = stack_ram(&self.layers, &self.rule);
         self.ram = stacked.ram;

@@ -3,7 +3,6 @@ ghost use Rattle.std.specs.Prelude.{◌≡◌, ◌≤◌, length};
 ghost use Rattle.frame.specs.Frames.{frame_bytes};
 ghost use Rattle.frame.specs.Written.{patched};
 ghost use Rattle.catalogue.specs.Owned.{entries_of};
-ghost use Rattle.reference.specs.Stores.{store_of};
 ghost use Rattle.request.specs.Changes.{changes_by};
 ghost use Rattle.reference.specs.Receiver.{with_transaction, written_if, applied, of_kind};
 ghost use Rattle.receiver.specs.State.{items_of, Kept};
@@ -17,7 +16,7 @@ use crate::first::HeldFrame;
 use crate::transaction::{Granted, LayerChange, Plan};
 use crate::verdict::{Sign, write_verdict};
 use catalogue::Catalogue;
-use configuration::apply_changes;
+use configuration::{StoreMeaning, apply_changes};
 use layer::Store;
 use reference::{Refusal, Telling, Verdict};
 use request::ItemChanges;
@@ -25,7 +24,7 @@ use rule::Rule;
 
 // Changes a layer where it is chosen.
 fn apply_if<S: Store>(chosen: bool, catalogue: &Catalogue, changes: &ItemChanges, store: &mut S)
-    ensures { store_of S.Store.usable S.Layer.settings store.new ≡ written_if chosen (entries_of catalogue.now) (changes_by (entries_of catalogue.now) changes.now.slots) (store_of S.Store.usable S.Layer.settings store.old) }
+    ensures { ⟦<S as StoreMeaning>⟧.store store.new ≡ written_if chosen (entries_of catalogue.now) (changes_by (entries_of catalogue.now) changes.now.slots) (⟦<S as StoreMeaning>⟧.store store.old) }
 {
     if chosen {
         apply_changes(catalogue, changes, store);
@@ -42,9 +41,7 @@ impl<B: Store, F: Store, R: Rule> Receiver<B, F, R> {
         let LayerChange { layers, items } = change;
         let catalogue = &self.layers.lower.catalogue;
         apply_if(layers.ram, catalogue, items, &mut self.ram);
-        let catalogue = &self.layers.lower.catalogue;
         apply_if(layers.bbr, catalogue, items, &mut self.layers.upper.upper);
-        let catalogue = &self.layers.lower.catalogue;
         apply_if(layers.flash, catalogue, items, &mut self.layers.upper.lower);
         self.transaction = None;
     }

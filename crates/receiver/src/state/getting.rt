@@ -29,8 +29,7 @@ fn reply_from<L: Layer>(
 {
     write_page(catalogue, layer, payload, out).map_err(|fault| match fault {
         PageFault::Refused(refusal) => refusal,
-        // there is room
-        PageFault::NoRoom => Refusal::ShortPayload,
+        PageFault::NoRoom => unreachable!(),
     })
 }
 

@@ -94,9 +94,7 @@ impl<B: Store, F: Store, R: Rule> Receiver<B, F, R> {
         ensures all { AllOrNone (items_of self.old) (⟦<Self as Meaning>⟧.state self.old) (⟦<Self as Meaning>⟧.state self.new) }
         ensures kept { Kept self.old self.new }
     {
-        if self.shut {
-            return Err(CallFault::Shut);
-        }
+        self.check_open()?;
         let room = out
             .first_chunk_mut::<ANSWER_ROOM>()
             .ok_or(CallFault::BufferTooShort)?;

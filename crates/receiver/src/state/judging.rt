@@ -1,15 +1,15 @@
 // Judging a frame of the configuration class. Nothing is changed here but the buffer, into which a reply is written; what is to be done
 // comes back as a plan.
 ghost use Rattle.std.specs.Prelude.{◌≡◌, ◌≤◌, ◌||◌, length, if◌then◌else◌, ◌==◌, nat_eq};
-ghost use Rattle.frame.specs.Frames.{carrying};
 ghost use Rattle.request.specs.Changes.{changes_by};
 ghost use Rattle.request.specs.Actions.{action_number};
+ghost use Rattle.request.specs.Reading.{changes_of};
 ghost use Rattle.request.specs.Head.{opened_layers};
-ghost use Rattle.reference.specs.Requests.{configuration_class, valset, valget, valdel, and_later};
+ghost use Rattle.reference.specs.Requests.{valset, valget, valdel, and_later};
 ghost use Rattle.reference.specs.Receiver.{apply_fault, applying, queue_of, planned, judged_change, judged_get, judged};
 ghost use Rattle.std.specs.Option.{option_map};
 ghost use Rattle.receiver.specs.State.{opened_of, items_of};
-ghost use Rattle.receiver.specs.Plans.{judgement_of, planned_with, Judged};
+ghost use Rattle.receiver.specs.Plans.{request_message, changes_for, judgement_of, Judged};
 
 use super::Receiver;
 use super::handling::ANSWER_ROOM;
@@ -18,15 +18,15 @@ use crate::transaction::{Granted, LayerChange, Plan, Transaction};
 use configuration::{apply_changes, fault_in};
 use layer::Store;
 use reference::{Layers, Refusal};
-use request::{Action, ItemChanges, Request, VALDEL, VALGET, VALSET};
+use request::{Action, HEAD, ItemChanges, Request, VALDEL, VALGET, VALSET};
 use rule::Rule;
 
 // Whether an ID is that of one of the three requests.
-// kept: a frame of any other ID is judged too, and refused, so its ID is a byte and no enum of the three
+// kept: `Request` is public and takes any ID, since `layers`, `action` and `read_data` promise something of each; so the ID is a byte here too
 fn is_request(id: u8) -> bool
     ensures { result ≡ (id == valset || (id == valget || id == valdel)) }
 {
-    id == VALSET || id == VALGET || id == VALDEL
+    matches!(id, VALSET | VALGET | VALDEL)
 }
 
 impl<B: Store, F: Store, R: Rule> Receiver<B, F, R> {
@@ -63,22 +63,6 @@ impl<B: Store, F: Store, R: Rule> Receiver<B, F, R> {
             .map_or(ItemChanges::none(), |transaction| transaction.queue.items)
     }
 
-    // What an action that reads the data of its frame does with them.
-    fn plan_with(&self, id: u8, action: Action, change: LayerChange) -> Result<Plan, Refusal>
-        ensures { judgement_of (items_of self.now) result ≡ planned_with (items_of self.now) (R.Rule.finding self.now.rule) (⟦<Self as Meaning>⟧.state self.now) id change.layers (action_number action) (changes_by (items_of self.now) change.items.slots) }
-    {
-        let items = match action {
-            Action::Apply => return self.plan_to_apply(change),
-            Action::Open => change.items,
-            Action::Add | Action::Close => self.queue_with(&change.items),
-        };
-        let queue = LayerChange {
-            layers: change.layers,
-            items,
-        };
-        Ok(Plan::Queue(Transaction { id, queue }))
-    }
-
     // What is queued, with more behind it.
     fn queue_with(&self, changes: &ItemChanges) -> ItemChanges
         ensures { changes_by (items_of self.now) result.slots ≡ and_later (queue_of (option_map (opened_of (items_of self.now)) self.now.transaction)) (changes_by (items_of self.now) changes.now.slots) }
@@ -87,21 +71,39 @@ impl<B: Store, F: Store, R: Rule> Receiver<B, F, R> {
         queue.and_later(changes)
     }
 
-    // What an action does with the data of its frame and those queued. Closing does not read its own.
-    fn plan(&self, request: &Request<'_>, layers: Layers, action: Action) -> Result<Plan, Refusal>
-        ensures { judgement_of (items_of self.now) result ≡ planned (items_of self.now) (R.Rule.finding self.now.rule) (⟦<Self as Meaning>⟧.state self.now) (carrying configuration_class request.now.id request.now.payload.now) layers (action_number action) }
+    // The changes that an action is about: those of its frame, behind those queued where it adds. Closing does not read its own.
+    fn changes_for(&self, request: &Request<'_>, action: Action) -> Result<ItemChanges, Refusal>
+        ensures { changes_of (items_of self.now) result ≡ changes_for (items_of self.now) (queue_of (option_map (opened_of (items_of self.now)) self.now.transaction)) (request_message request.now) action }
     {
-        if let Action::Close = action {
-            let items = self.queue();
-            return self.plan_to_apply(LayerChange { layers, items });
+        let catalogue = &self.layers.lower.catalogue;
+        match action {
+            Action::Apply | Action::Open => request.read_data(catalogue),
+            Action::Add => {
+                let items = request.read_data(catalogue)?;
+                Ok(self.queue_with(&items))
+            }
+            Action::Close => Ok(self.queue()),
         }
-        let items = request.read_data(&self.layers.lower.catalogue)?;
-        self.plan_with(request.id, action, LayerChange { layers, items })
+    }
+
+    // What an action does with the changes that it is about: they are applied, or queued.
+    fn plan(&self, request: &Request<'_>, layers: Layers, action: Action) -> Result<Plan, Refusal>
+        ensures { judgement_of (items_of self.now) result ≡ planned (items_of self.now) (R.Rule.finding self.now.rule) (⟦<Self as Meaning>⟧.state self.now) (request_message request.now) layers (action_number action) }
+    {
+        let items = self.changes_for(request, action)?;
+        let change = LayerChange { layers, items };
+        match action {
+            Action::Apply | Action::Close => self.plan_to_apply(change),
+            Action::Open | Action::Add => Ok(Plan::Queue(Transaction {
+                id: request.id,
+                queue: change,
+            })),
+        }
     }
 
     // A set or a delete.
     fn judge_change(&self, request: &Request<'_>) -> Result<Plan, Refusal>
-        ensures { judgement_of (items_of self.now) result ≡ judged_change (items_of self.now) (R.Rule.finding self.now.rule) (⟦<Self as Meaning>⟧.state self.now) (carrying configuration_class request.now.id request.now.payload.now) }
+        ensures { judgement_of (items_of self.now) result ≡ judged_change (items_of self.now) (R.Rule.finding self.now.rule) (⟦<Self as Meaning>⟧.state self.now) (request_message request.now) }
     {
         let usable = self.layers.upper.lower.is_usable();
         request.check_head(usable, self.opened_layers())?;
@@ -122,7 +124,7 @@ impl<B: Store, F: Store, R: Rule> Receiver<B, F, R> {
         out: &mut [u8; ANSWER_ROOM],
     ) -> Result<Granted, Refusal>
         requires long { 4 ≤ length request.now.payload.now }
-        ensures { Judged (items_of self.now) out.old out.new (if nat_eq request.now.id valget then judged_get (items_of self.now) (⟦<Self as Meaning>⟧.state self.now) (carrying configuration_class request.now.id request.now.payload.now) else judged_change (items_of self.now) (R.Rule.finding self.now.rule) (⟦<Self as Meaning>⟧.state self.now) (carrying configuration_class request.now.id request.now.payload.now)) result }
+        ensures { Judged (items_of self.now) out.old out.new (if nat_eq request.now.id valget then judged_get (items_of self.now) (⟦<Self as Meaning>⟧.state self.now) (request_message request.now) else judged_change (items_of self.now) (R.Rule.finding self.now.rule) (⟦<Self as Meaning>⟧.state self.now) (request_message request.now)) result }
     {
         if request.id == VALGET {
             let length = self.judge_get(request.payload, out)?;
@@ -139,12 +141,12 @@ impl<B: Store, F: Store, R: Rule> Receiver<B, F, R> {
         request: &Request<'_>,
         out: &mut [u8; ANSWER_ROOM],
     ) -> Result<Granted, Refusal>
-        ensures { Judged (items_of self.now) out.old out.new (judged (items_of self.now) (R.Rule.finding self.now.rule) (⟦<Self as Meaning>⟧.state self.now) (carrying configuration_class request.now.id request.now.payload.now)) result }
+        ensures { Judged (items_of self.now) out.old out.new (judged (items_of self.now) (R.Rule.finding self.now.rule) (⟦<Self as Meaning>⟧.state self.now) (request_message request.now)) result }
     {
         if !is_request(request.id) {
             return Err(Refusal::OtherId);
         }
-        if request.payload.len() < 4 {
+        if request.payload.len() < HEAD {
             return Err(Refusal::ShortPayload);
         }
         self.judge_request(request, out)

@@ -2,7 +2,7 @@
 ghost use Rattle.std.specs.Prelude.{◌≡◌, [], if◌then◌else◌, None};
 ghost use Rattle.catalogue.specs.Owned.{entries_of};
 ghost use Rattle.store.specs.Slots.{settings_of};
-ghost use Rattle.reference.specs.Stores.{store_of, held};
+ghost use Rattle.reference.specs.Stores.{held};
 ghost use Rattle.reference.specs.Parts.{parts_fault, stacked};
 ghost use Rattle.reference.specs.Receiver.{made};
 ghost use Rattle.reference.specs.Promise.{LawOf};
@@ -11,7 +11,7 @@ ghost use Rattle.receiver.specs.State.{items_of};
 use super::Receiver;
 use super::meaning::{Meaning, PartsMeaning};
 use catalogue::Entry;
-use configuration::{check, stack_ram};
+use configuration::{Pile, StoreMeaning, check, stack_ram};
 use held::Held;
 use layer::{Stack, Store};
 use rule::Rule;
@@ -25,12 +25,8 @@ pub struct Parts<B, F, R> {
 }
 
 // RAM as it is stacked, or empty in a shut receiver.
-fn first_ram<B: Store, F: Store, R: Rule>(
-    shut: bool,
-    layers: &Stack<Stack<B, F>, Defaults>,
-    rule: &R,
-) -> SlotTable
-    ensures { settings_of result.slots ≡ (if shut then [] else stacked (entries_of layers.now.lower.catalogue) (R.Rule.finding rule.now) (held (store_of B.Store.usable B.Layer.settings layers.now.upper.upper)) (held (store_of F.Store.usable F.Layer.settings layers.now.upper.lower))) }
+fn first_ram<B: Store, F: Store, R: Rule>(shut: bool, layers: &Pile<B, F>, rule: &R) -> SlotTable
+    ensures { settings_of result.slots ≡ (if shut then [] else stacked (entries_of layers.now.lower.catalogue) (R.Rule.finding rule.now) (held (⟦<B as StoreMeaning>⟧.store layers.now.upper.upper)) (held (⟦<F as StoreMeaning>⟧.store layers.now.upper.lower))) }
 {
     if shut {
         SlotTable::new()
@@ -69,8 +65,8 @@ impl<B: Store, F: Store, R: Rule> Receiver<B, F, R> {
 
     // Gives back the stores, with what they hold now, and the rule.
     pub fn into_parts(self) -> Parts<B, F, R>
-        ensures bbr { store_of B.Store.usable B.Layer.settings result.bbr ≡ (⟦<Self as Meaning>⟧.state self).bbr }
-        ensures flash { store_of F.Store.usable F.Layer.settings result.flash ≡ (⟦<Self as Meaning>⟧.state self).flash }
+        ensures bbr { ⟦<B as StoreMeaning>⟧.store result.bbr ≡ (⟦<Self as Meaning>⟧.state self).bbr }
+        ensures flash { ⟦<F as StoreMeaning>⟧.store result.flash ≡ (⟦<Self as Meaning>⟧.state self).flash }
         ensures rule { result.rule ≡ self.rule }
     {
         let Receiver { layers, rule, .. } = self;
