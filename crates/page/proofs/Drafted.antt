@@ -127,12 +127,6 @@ frames_start es ss p bs d n head skip left none rest =
     ap₂ (λ (m n : ℕ). pairs_bytes (take m (drop n (held_pairs ss ks)))) left skip in
     ap (λ (bs : List ℕ). frame_bytes (carrying configuration_class valget bs)) (ap₂ (λ (a b : List ℕ). a ++ b) head pairs))
 
--- a number's keys are added
-pub frame_named : (es fs : List Entry) (ss : List Setting) (s : Selector) (d e : Draft) → fs ≡ es → ((ks : List ℕ) → finished_by ss e ks ≡ finished_by ss d (keys_named s fs ++ ks))
-    → (ks : List ℕ) → frame_by ss e ks ≡ frame_by ss d (keys_named s es ++ ks)
-frame_named es fs ss s d e same step ks =
-    ap (λ (bs : List ℕ). frame_bytes (carrying configuration_class valget bs)) (step ks ∙ ap (λ (l : List Entry). finished_by ss d (keys_named s l ++ ks)) same)
-
 pub frame_end : (ss : List Setting) (d : Draft) → frame_bytes (carrying configuration_class valget (payload_of d)) ≡ frame_by ss d []
 unfolding held_pairs
 frame_end ss d = ap (λ (bs : List ℕ). frame_bytes (carrying configuration_class valget bs)) (sym (finished_none d))

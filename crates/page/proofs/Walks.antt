@@ -1,16 +1,15 @@
 -- The walk over the keys and selectors of a get, one entry further and at its end.
-use Rattle.std.proofs.Common.{◌≡◌, ℕ, zero, suc, ◌+◌, ◌-◌, ◌*◌, ◌<◌, ◌≤◌, min, List, [], ◌∷◌, ◌++◌, length, drop, Some, None, Ok, Err, Result, sym, refl, ap, ◌∙◌, ap₂, arith}
+use Rattle.std.proofs.Common.{◌≡◌, ℕ, zero, suc, ◌+◌, ◌-◌, ◌*◌, ◌<◌, ◌≤◌, min, List, [], ◌∷◌, ◌++◌, length, drop, Some, None, Ok, Err, sym, refl, ap, ◌∙◌, ap₂, arith}
 use Rattle.std.proofs.lemmas.Bool.Decides.{nat_tests}
 use Rattle.std.proofs.lemmas.List.{length-append, take-append-le}
 use Rattle.std.proofs.Math.Seq.{drop-append_seam}
 use Rattle.item.specs.Selectors.{selector_of}
 use Rattle.catalogue.specs.declared.entries.Entry.{Entry}
 use Rattle.catalogue.specs.Catalogues.{named_from}
-use Rattle.reference.specs.declared.refusal.Refusal.{Refusal}
 use Rattle.reference.specs.declared.refusal.Refusal.TheVariants.{TooManyEntries, CutEntry, UnknownKey}
 use Rattle.reference.specs.Requests.{ok_map, keys_named, Read, cut, unknown, read, named_read, key_read, walking, walk, keys_of}
 use Rattle.request.specs.Keys.{key_in}
-use Rattle.page.specs.Walks.{keys_behind, EntryRead}
+use Rattle.page.specs.Walks.{keys_behind}
 use Rattle.page.proofs.Named.{named_none, named_some}
 
 -- One entry
@@ -63,33 +62,6 @@ module _ (es : List Entry) (before : ℕ) (bs rest : List ℕ) (few : before ≤
         let four : length bs ≡ 4 = grind (arith, nat_tests) in
         entry_as _ (read_as ∙ known)
         ∙ ap₂ (λ (place : ℕ) (l : List ℕ). ok_map (◌++◌ (keys_named (selector_of n) es)) (walk (key_read es) (64 - (before + 1)) place l)) (omega arith) (ap (λ (k : ℕ). drop k (bs ++ rest)) (sym four) ∙ drop-append_seam bs rest)
-
--- The next piece of what is left, as the entry at its front was read
-
-module _ (es : List Entry) (n m size : ℕ) (all bs rest : List ℕ) (is : all ≡ bs ++ rest) (whole : length bs ≡ min size (length all)) (four : size ≡ 4) (some : 0 < length all) (at : m ≡ n) where
-  front : 0 < length bs
-  front = grind arith
-
-  piece : length bs ≡ min 4 (length (bs ++ rest))
-  piece = whole ∙ ap₂ (λ (a : ℕ) (l : List ℕ). min a (length l)) four is
-
-  here : keys_behind es n all ≡ keys_behind es m (bs ++ rest)
-  here = ap₂ (λ (a : ℕ) (l : List ℕ). keys_behind es a l) (sym at) is
-
-  module _ {A : Type 0} (f : List ℕ → A) where
-    pub keys_stop : (e : Refusal) → EntryRead es m bs (Err e) → Err e ≡ ok_map f (keys_behind es n all)
-    keys_stop e refused = sym (ap (ok_map f) (here ∙ refused rest front piece))
-
-    same_made : (g : List ℕ → A) (ks : List ℕ) (r : Result (List ℕ) Refusal) → ((js : List ℕ) → g js ≡ f (ks ++ js)) → ok_map g r ≡ ok_map f (ok_map (◌++◌ ks) r)
-    same_made g ks (Ok js) same = ap Ok (same js)
-    same_made g ks (Err e) same = refl
-
-    pub keys_on : (k next : ℕ) (g : List ℕ → A) → next ≡ n + 1 → EntryRead es m bs (Ok k) → ((js : List ℕ) → g js ≡ f (keys_named (selector_of k) es ++ js))
-        → ok_map g (keys_behind es next rest) ≡ ok_map f (keys_behind es n all)
-    keys_on k next g more told same =
-        ap (λ (a : ℕ). ok_map g (keys_behind es a rest)) (more ∙ ap (λ (a : ℕ). a + 1) (sym at))
-        ∙ same_made g (keys_named (selector_of k) es) (keys_behind es (m + 1) rest) same
-        ∙ sym (ap (ok_map f) (here ∙ told.1 rest front piece))
 
 -- The beginning and the end
 
