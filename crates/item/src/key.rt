@@ -68,12 +68,9 @@ pub fn is_well_formed(key: u32) -> bool
     let size = key / 0x1000_0000 % 8;
     let group = key / 0x1_0000 % 256;
     let item = key % 0x1000;
-    size >= 1
-        && size <= 5
-        && group >= 1
-        && group <= 0xfe
-        && item >= 1
-        && item <= 0xffe
+    (1..=5).contains(&size)
+        && (1..=0xfe).contains(&group)
+        && (1..=0xffe).contains(&item)
         && key == size * 0x1000_0000 + group * 0x1_0000 + item
 }
 
