@@ -6,8 +6,7 @@ pub mod calls;
 
 #[derive(Drop)]
 pub struct Held {
-    // kept: fixed memory, and dropping moves `start` and no byte; a vector of fixed capacity would move all that is left, and a ring would lend it
-    // in two parts
+    // kept: fixed memory; a vector of fixed capacity would want `start` beside it too, and its bytes moved to the front by the same two steps
     bytes: [u8; 780],
     start: usize,
     end: usize,

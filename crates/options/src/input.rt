@@ -37,7 +37,7 @@ pub fn for_each_piece<R: Read, F: FnMut(&[u8]) -> anyhow::Result<()>>(
     ensures handed { OnOk result ((after : F) × Handed F.FnMut each after (R.remaining input.old) (R.remaining input.new)) }
 {
     let mut piece = [0u8; PIECE];
-    // kept: a reader need not come to an end, and a loop has to
+    // kept: a reader need not come to an end and a loop has to, so its turns are bounded
     for _ in 0..u64::MAX {
         match input.read(&mut piece) {
             Ok(0) => return Ok(()),

@@ -68,12 +68,10 @@ impl<B: Store + Drop, F: Store + Drop, R: Rule + Drop> Replaying<B, F, R> {
         ensures event { IfOk result (λ e. event_of e ≡ (⟦<Receiver<B, F, R> as Meaning>⟧.step self.old.receiver (asking_of call.entry)).event) }
         ensures kept { Kept self.old.receiver self.new.receiver }
     {
-        // kept: tried as `or_else`: its closure would make an event with a lifetime that nothing it captures names
-        match self.carry_out(call) {
-            Ok(event) => Ok(event),
-            Err(Unlogged::Refused(fault)) => Ok(Event::Refused(call, fault)),
-            Err(Unlogged::NoMemory(error)) => Err(error),
-        }
+        self.carry_out(call).or_else(|unlogged| match unlogged {
+            Unlogged::Refused(fault) => Ok(Event::Refused(call, fault)),
+            Unlogged::NoMemory(error) => Err(error),
+        })
     }
 
     // All calls, in their order.

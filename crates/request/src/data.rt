@@ -84,6 +84,7 @@ impl ItemChanges {
         ensures { Taken (entries_of catalogue.now) (read_map (map deleted) (named_read (keys_named (selector_of number) (entries_of catalogue.now)))) 4 self.old.slots self.new.slots result }
     {
         let selector = Selector::from(number);
+        // kept: a flag, since the walk that removes sees whether any is named; asked in front, the entries would be walked twice
         let mut named = false;
         for (item, entry) in catalogue.entries().iter().enumerate() {
             if selector.names(entry.key) {

@@ -36,7 +36,7 @@ pub fn byte_at(payload: &[u8], place: usize) -> u8
 }
 
 // Whether two choices of layers are the same.
-// kept: public, and the word of the definitions for what `==` of the derive says
+// kept: public, and its clause is the promise that callers have of `==`, in the word of the definitions
 pub fn same_layers(a: Layers, b: Layers) -> bool
     ensures { result ≡ same_layers a b }
 {

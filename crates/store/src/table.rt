@@ -8,8 +8,8 @@ pub mod calls;
 
 #[derive(Drop)]
 pub struct SlotTable {
-    // kept: a setting keeps its slot until it is removed, and a change writes that slot alone, as in a memory that a battery keeps; a vector would
-    // move another setting into it
+    // kept: a removal writes one slot and leaves each other setting in its own, where a vector would move one; and the two facts below are of all
+    // settings, whatever holds them
     slots: [Option<Setting>; 128],
     ghost whole: { length slots ≡ 128 },
     // no two used slots have one key

@@ -43,7 +43,7 @@ impl<'a, W: Write> Listing<'a, W> {
 
     // Answers all frames that are whole in what is held. Each has a byte at least, and one answer more finds that none is whole.
     fn answer_all(&mut self) -> anyhow::Result<()> {
-        // kept: a `while let` would have to be shown to end; so there are at most as many answers as bytes, and one
+        // kept: a `while let` would have to be shown to end, by what the receiver holds; the bound says it in a line
         for _ in 0..=self.receiver.held_count() {
             let place = self.place;
             let answered = self.answer_first()?;
@@ -61,7 +61,7 @@ impl<'a, W: Write> Listing<'a, W> {
     // Takes a whole piece, as much at a time as the receiver has room for.
     fn take_all(&mut self, piece: &[u8]) -> anyhow::Result<()> {
         let mut rest = piece;
-        // kept: a `while` would have to be shown to end, by what each take takes; so a piece has at most as many takes as bytes
+        // kept: a `while` would have to be shown to end, by what each take takes; the bound says it in a line
         for _ in 0..piece.len() {
             if rest.is_empty() {
                 break;

@@ -23,7 +23,7 @@ use request::ItemChanges;
 use rule::Rule;
 
 // Changes a layer where it is chosen.
-// kept: whether it is chosen is asked in here, so that the three layers share one proof of what an unchosen one keeps
+// kept: the condition is a parameter, since three `if`s in `apply` would each want the proof that a layer which is not chosen stays
 fn apply_if<S: Store>(chosen: bool, catalogue: &Catalogue, changes: &ItemChanges, store: &mut S)
     ensures { ⟦<S as StoreMeaning>⟧.store store.new ≡ written_if chosen (entries_of catalogue.now) (changes_by (entries_of catalogue.now) changes.now.slots) (⟦<S as StoreMeaning>⟧.store store.old) }
 {

@@ -25,7 +25,7 @@ pub struct Parts<B, F, R> {
 }
 
 // RAM as it is stacked, or empty in a shut receiver.
-// kept: whether it is shut is asked in here, so that what making says of RAM has a place of its own
+// kept: the condition is a parameter, since asked in `make` its clause on the state would have to be shown in both cases
 fn first_ram<B: Store, F: Store, R: Rule>(shut: bool, layers: &Pile<B, F>, rule: &R) -> SlotTable
     ensures { settings_of result.slots ≡ (if shut then [] else stacked (entries_of layers.now.lower.catalogue) (R.Rule.finding rule.now) (held (⟦<B as StoreMeaning>⟧.store layers.now.upper.upper)) (held (⟦<F as StoreMeaning>⟧.store layers.now.upper.lower))) }
 {
