@@ -68,10 +68,13 @@ impl<B: Store + Drop, F: Store + Drop, R: Rule + Drop> Replaying<B, F, R> {
         ensures event { IfOk result (λ e. event_of e ≡ (⟦<Receiver<B, F, R> as Meaning>⟧.step self.old.receiver (asking_of call.entry)).event) }
         ensures kept { Kept self.old.receiver self.new.receiver }
     {
-        self.carry_out(call).or_else(|unlogged| match unlogged {
-            Unlogged::Refused(fault) => Ok(Event::Refused(call, fault)),
-            Unlogged::NoMemory(error) => Err(error),
-        })
+        // kept: a match in place of `or_else`, after which nothing is known of a refusal's event: tried. A closure that captures a call, which has
+        // references, brings no promise
+        match self.carry_out(call) {
+            Ok(event) => Ok(event),
+            Err(Unlogged::Refused(fault)) => Ok(Event::Refused(call, fault)),
+            Err(Unlogged::NoMemory(error)) => Err(error),
+        }
     }
 
     // All calls, in their order.
