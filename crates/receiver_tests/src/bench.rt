@@ -31,7 +31,7 @@ pub(crate) fn bench() -> Bench {
 
 // How the frame was told that an answering told.
 pub(crate) fn telling_of(answered: Answered) -> Result<Telling, Fail> {
-    answered.told.ok_or(Fail::new("no frame is whole"))
+    answered.told.ok_or_else(|| Fail::new("no frame is whole"))
 }
 
 // How much noise was dropped by an answering that found no whole frame.

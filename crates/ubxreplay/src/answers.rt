@@ -98,10 +98,7 @@ fn show_refused<W: fmt::Write>(
     write!(f, "{name} refused {number}")
 }
 
-fn show_answering<W: fmt::Write>(
-    f: &mut fmt::Formatter<W>,
-    answering: &Answering,
-) -> fmt::Result {
+fn show_answering<W: fmt::Write>(f: &mut fmt::Formatter<W>, answering: &Answering) -> fmt::Result {
     let noise = answering.answered.noise;
     write!(f, "answer noise {noise} ")?;
     match &answering.answered.told {
