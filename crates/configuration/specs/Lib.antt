@@ -1,3 +1,0 @@
-pub mod Checking
-pub mod Meaning
-pub mod Strays

@@ -46,6 +46,11 @@ abbrev pub key_above : ℕ → List Setting → Option ℕ
 key_above n [] = None
 key_above n (s ∷ ss) = cond (nat_lt n s.key) (Some s.key) (key_above n ss)
 
+-- the settings from the first key above n on
+abbrev pub above : ℕ → List Setting → List Setting
+above n [] = []
+above n (s ∷ ss) = cond (nat_lt n s.key) (s ∷ ss) (above n ss)
+
 -- each key is above n and above those before it
 abbrev pub Above : ℕ → List Setting → Type 0
 Above n [] = Unit {0}

@@ -1,6 +1,7 @@
 use Rattle.std.proofs.Common.{◌≡◌, true, false, ◌∙◌, sym}
 use Rattle.reference.specs.Requests.{is_known}
-use Rattle.configuration.proofs.Strays.{stray_start, stray_here, stray_past, shorter, stray_none}
+use Rattle.layer.proofs.Walking.{above_shorter}
+use Rattle.configuration.proofs.Strays.{stray_start, stray_here, stray_past, stray_none}
 use Rattle.configuration.proofs.straying.stray_key.Goals as goal
 
 pub loop-key-init : goal.loop-key-init
@@ -10,7 +11,7 @@ loop-key-init g c =
 pub loop-key-smaller : goal.loop-key-smaller
 loop-key-smaller g c =
     let layer = g.met.L.Layer in
-    shorter c.args.entries.now _ _ _ (layer.ascends c.args.layer.now) (layer.sound c.args.layer.now) c.in-Some.ensures
+    above_shorter _ _ _ (layer.ascends c.args.layer.now) (layer.sound c.args.layer.now) c.in-Some.ensures
 
 pub loop-key-preserved : goal.loop-key-preserved
 loop-key-preserved g c =

@@ -1,6 +1,6 @@
 use Rattle.std.proofs.Common.{◌≡◌, length}
 use Rattle.reference.specs.Parts.{stray_key}
-use Rattle.configuration.specs.Strays.{above}
+use Rattle.layer.specs.Settings.{above}
 use Rattle.configuration.proofs.straying.stray_key.Given as goal
 
 abbrev pub invariant-loop-key : goal.invariant-loop-key

@@ -1,0 +1,89 @@
+// Writing records over the words of a buffer.
+ghost use Rattle.std.specs.Prelude.{◌≡◌, ◌+◌, ◌≤◌, ◌++◌, length, replicate};
+ghost use Rattle.frame.specs.Written.{patched, in_front};
+ghost use Rattle.layer.specs.Settings.{without};
+ghost use Rattle.store.specs.Slots.{settings_of};
+ghost use Rattle.journal.specs.Words.{blank};
+ghost use Rattle.journal.specs.Writing.{records_of, filled, recorded, Change, Written};
+
+use crate::record::{Record, setting_record};
+use crate::word::BLANK;
+use layer::Layer;
+use store::SlotTable;
+
+// Writes a record over the words from a place on; answers the place behind it.
+fn write_words(words: &mut [u32], place: usize, record: &[u32]) -> usize
+    requires { place + length record.now ≤ length words.old }
+    ensures place { result ≡ place + length record.now }
+    ensures words { words.new ≡ patched place record.now words.old }
+{
+    let end = place + record.len();
+    words[place..end].copy_from_slice(record);
+    end
+}
+
+// Writes the settings of a table, but for one key's, at the start of the words, in ascending key order; answers how many words they take.
+fn write_others(words: &mut [u32], held: &SlotTable, except: u32) -> usize
+    requires { length (records_of (without except (settings_of held.now.slots))) ≤ length words.old }
+    ensures count { result ≡ length (records_of (without except (settings_of held.now.slots))) }
+    ensures words { words.new ≡ in_front (records_of (without except (settings_of held.now.slots))) words.old }
+{
+    let mut place = 0;
+    let mut number = 0;
+    while let Some(key) = held.next_key(number) {
+        if key != except {
+            let value = held.value(key).unwrap();
+            place = write_words(words, place, setting_record(key, value).as_slice());
+        }
+        number = key;
+    }
+    place
+}
+
+// Writes the settings of a table anew, but for one key's, then what is to stand behind them, then blanks; answers how many words are used.
+fn rewrite(words: &mut [u32], held: &SlotTable, record: &Record<'_>) -> usize
+    requires { length (records_of (without record.now.key (settings_of held.now.slots))) + length record.now.lasting.now ≤ length words.old }
+    ensures used { result ≡ length (records_of (without record.now.key (settings_of held.now.slots)) ++ record.now.lasting.now) }
+    ensures words { words.new ≡ filled (length words.old) (records_of (without record.now.key (settings_of held.now.slots)) ++ record.now.lasting.now) }
+{
+    let place = write_others(words, held, record.key);
+    let used = write_words(words, place, record.lasting);
+    words[used..].fill(BLANK);
+    used
+}
+
+// Writes a change, after which the table says what is held: behind the used words where it fits, exactly too; else all anew. Answers how many words
+// are used.
+fn change_words(words: &mut [u32], used: usize, held: &SlotTable, record: &Record<'_>) -> usize
+    requires { Change words.old used (settings_of held.now.slots) record.now.key record.now.words.now record.now.lasting.now }
+    ensures words { words.new ≡ recorded record.now.words.now (without record.now.key (settings_of held.now.slots)) record.now.lasting.now words.old }
+    ensures written { Written words.new (settings_of held.now.slots) result }
+{
+    let room = words.len() - used;
+    if record.words.len() <= room {
+        write_words(words, used, record.words)
+    } else {
+        rewrite(words, held, record)
+    }
+}
+
+// The same, in the words that a journal owns.
+pub(crate) fn write_change(
+    words: &mut Vec<u32>,
+    used: usize,
+    held: &SlotTable,
+    record: &Record<'_>,
+) -> usize
+    requires { Change words.old.items used (settings_of held.now.slots) record.now.key record.now.words.now record.now.lasting.now }
+    ensures words { words.new.items ≡ recorded record.now.words.now (without record.now.key (settings_of held.now.slots)) record.now.lasting.now words.old.items }
+    ensures written { Written words.new.items (settings_of held.now.slots) result }
+{
+    change_words(words.as_mut_slice(), used, held, record)
+}
+
+// Makes every word blank.
+pub(crate) fn write_blanks(words: &mut Vec<u32>)
+    ensures { words.new.items ≡ replicate (length words.old.items) blank }
+{
+    words.as_mut_slice().fill(BLANK);
+}
