@@ -1,8 +1,9 @@
 // Each store by the same questions, and layers over one another.
+use any_store::AnyStore;
 use catalogue::bench_catalogue;
 use layer::{Absent, Layer, Saver, Stack, Store, StoreFault, put_then_ask};
 use std::process::Abort;
-use store::{AnyStore, Defaults, SlotTable};
+use store::{Defaults, SlotTable};
 
 const ADDRESS: u32 = 0x2051_0001;
 

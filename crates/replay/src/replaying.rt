@@ -7,6 +7,7 @@ ghost use Rattle.replay.specs.Logs.{event_of, run_of, LoggedAs, Replays};
 
 use crate::event::{Answering, Event};
 use crate::unlogged::Unlogged;
+use crate::watch::{Unwatched, Watch};
 use catalogue::Entry;
 use layer::Store;
 use receiver::{ANSWER_ROOM, Meaning, Parts, PartsMeaning, Receiver};
@@ -79,12 +80,18 @@ impl<B: Store + Drop, F: Store + Drop, R: Rule + Drop> Replaying<B, F, R> {
 
     // All calls, in their order.
     #[tactic(auto, using(crate::proofs::Runs::run_more, crate::proofs::Runs::run_all))]
-    fn log_all<'a>(mut self, calls: &[Call<'a>]) -> Result<Replayed<'a, B, F, R>, AllocError>
+    fn log_all<'a, W: Watch<B, F, R>>(
+        mut self,
+        calls: &[Call<'a>],
+        watch: &mut W,
+    ) -> Result<Replayed<'a, B, F, R>, AllocError>
         ensures { IfOk result (λ x. run_of x.log.items (⟦<Receiver<B, F, R> as Meaning>⟧.state x.receiver) ≡ run_from (items_of self.receiver) (R.Rule.finding self.receiver.rule) (record { state = ⟦<Receiver<B, F, R> as Meaning>⟧.state self.receiver; history = [] }) (map asking_of calls.now)) }
     {
         let mut log = Vec::new(self.heap);
+        watch.see(&self.receiver)?;
         for call in calls {
             log.push(self.log_call(*call)?)?;
+            watch.see(&self.receiver)?;
         }
         Ok(Replayed {
             log,
@@ -103,6 +110,19 @@ pub fn replay<'a, B: Store + Drop, F: Store + Drop, R: Rule + Drop>(
 ) -> Result<Replayed<'a, B, F, R>, AllocError>
     ensures { IfOk result (λ x. Replays (⟦<Parts<B, F, R> as PartsMeaning>⟧.with parts entries.now) (map asking_of calls.now) x.log.items (⟦<Receiver<B, F, R> as Meaning>⟧.state x.receiver)) }
 {
+    replay_watched(heap, entries, parts, calls, &mut Unwatched)
+}
+
+// The same, watched: before the first call and after each the receiver is lent for reading.
+pub fn replay_watched<'a, B: Store + Drop, F: Store + Drop, R: Rule + Drop, W: Watch<B, F, R>>(
+    heap: Global,
+    entries: &[Entry],
+    parts: Parts<B, F, R>,
+    calls: &[Call<'a>],
+    watch: &mut W,
+) -> Result<Replayed<'a, B, F, R>, AllocError>
+    ensures { IfOk result (λ x. Replays (⟦<Parts<B, F, R> as PartsMeaning>⟧.with parts entries.now) (map asking_of calls.now) x.log.items (⟦<Receiver<B, F, R> as Meaning>⟧.state x.receiver)) }
+{
     let receiver = Receiver::make(entries, parts);
-    Replaying { heap, receiver }.log_all(calls)
+    Replaying { heap, receiver }.log_all(calls, watch)
 }

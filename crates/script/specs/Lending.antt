@@ -1,7 +1,7 @@
 -- The store at a place, lent by a set-up.
 use Rattle.std.specs.Borrow.{Lends, MutBor, Fml}
-use Rattle.store.specs.declared.any.AnyStore.{AnyStore}
-use Rattle.store.specs.contracts.any.AnyStore as store
+use Rattle.any_store.specs.declared.any.AnyStore.{AnyStore}
+use Rattle.any_store.specs.contracts.any.AnyStore as store
 use Rattle.script.specs.declared.command.Place.{Place}
 use Rattle.script.specs.declared.command.Place.TheVariants.{Bbr, Flash}
 use Rattle.script.specs.declared.setup.Setup.{Setup}

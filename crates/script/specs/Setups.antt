@@ -1,11 +1,13 @@
 -- The set-up of a receiver: its two places, and what it begins with.
-use Rattle.std.specs.Prelude.{◌≡◌, ℕ, ◌+◌, [], vec_items}
-use Rattle.store.specs.declared.any.AnyStore.{AnyStore}
-use Rattle.store.specs.Any.{any_settings, any_kind}
+use Rattle.std.specs.Prelude.{◌≡◌, ℕ, ◌+◌, List, [], Some, None, Option, vec_items}
+use Rattle.any_store.specs.declared.any.AnyStore.{AnyStore}
+use Rattle.any_store.specs.Any.{any_settings, any_kind}
+use Rattle.journal.specs.Inspecting.{held_in}
+use Rattle.layer.specs.declared.setting.Setting.{Setting}
 use Rattle.script.specs.declared.command.Choice.{Choice}
 use Rattle.script.specs.declared.command.Choice.TheVariants.{Bare, Saved}
 use Rattle.script.specs.declared.command.Medium.{Medium}
-use Rattle.script.specs.declared.command.Medium.TheVariants.{Slots, Absent}
+use Rattle.script.specs.declared.command.Medium.TheVariants.{Slots, Absent, Words}
 use Rattle.script.specs.declared.command.Place.{Place}
 use Rattle.script.specs.declared.command.Place.TheVariants.{Bbr, Flash}
 use Rattle.script.specs.declared.setup.Setup.{Setup}
@@ -13,11 +15,31 @@ use Rattle.script.specs.declared.setup.Setup.{Setup}
 abbrev pub medium_kind : Medium → ℕ
 medium_kind Slots = 0
 medium_kind Absent = 1
+medium_kind (Words ws) = 2
 
 -- the kind of store that a choice is
 abbrev pub kind_of : Choice → ℕ
 kind_of (Bare medium) = medium_kind medium
-kind_of (Saved medium) = 2 + medium_kind medium
+kind_of (Saved medium) = 3 + medium_kind medium
+
+-- what a choice holds, and on which words
+abbrev pub held_by : Medium → List Setting
+held_by Slots = []
+held_by Absent = []
+held_by (Words ws) = held_in (vec_items ws)
+
+abbrev pub settings_in : Choice → List Setting
+settings_in (Bare medium) = held_by medium
+settings_in (Saved medium) = held_by medium
+
+abbrev pub words_under : Medium → Option (List ℕ)
+words_under Slots = None
+words_under Absent = None
+words_under (Words ws) = Some (vec_items ws)
+
+abbrev pub words_of : Choice → Option (List ℕ)
+words_of (Bare medium) = words_under medium
+words_of (Saved medium) = words_under medium
 
 abbrev pub store_at : Place → Setup → AnyStore
 store_at Bbr s = s.bbr

@@ -14,22 +14,23 @@ pub enum Place {
     Flash,
 }
 
-// An empty table of slots, or nothing at all.
-#[derive(Clone, Copy, PartialEq, Eq, Debug)]
+// An empty table of slots, nothing at all, or a journal on these words.
+#[derive(Drop)]
 pub enum Medium {
     Slots,
     Absent,
+    Words(Vec<u32>),
 }
 
 // What stands at a place: a medium, bare or under a saver.
-#[derive(Clone, Copy, PartialEq, Eq, Debug)]
+#[derive(Drop)]
 pub enum Choice {
     Bare(Medium),
     Saved(Medium),
 }
 
 // Of what a receiver is to be made.
-#[derive(Clone, Copy)]
+#[derive(Drop)]
 pub enum Part {
     Entry(Entry),
     Need(Need),
@@ -71,4 +72,8 @@ pub enum Command {
     SetUp(Part),
     Make,
     Call(OwnCall),
+    // inspects a buffer of words; it may stand anywhere
+    Inspect(Vec<u32>),
+    // shows the words of the journal at a place; it may stand anywhere
+    Words(Place),
 }

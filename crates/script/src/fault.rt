@@ -10,6 +10,7 @@ pub enum LineFault {
     Form(&'static str),
     NoKey,
     NoByte,
+    NoWord,
     // no decimal number, or one above the most that is taken
     NoNumber(u64),
     // no decimal number
@@ -28,6 +29,7 @@ impl fmt::Display for LineFault {
             LineFault::Form(form) => write!(f, "expected: {form}"),
             LineFault::NoKey => f.write_str("a key is a hexadecimal number up to ffffffff"),
             LineFault::NoByte => f.write_str("a byte is a hexadecimal number up to ff"),
+            LineFault::NoWord => f.write_str("a word is a hexadecimal number up to ffffffff"),
             LineFault::NoNumber(most) => write!(f, "expected a decimal number up to {most}"),
             LineFault::NoCount => f.write_str("expected a decimal number"),
             LineFault::NotBuilt(what) => write!(f, "{what} is not built yet"),

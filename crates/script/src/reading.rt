@@ -4,7 +4,8 @@ ghost use Rattle.std.specs.Prelude.{◌≡◌, length, IfOk, vec_len};
 use crate::command::{Choice, Command, Medium, OwnCall, Part, Place};
 use crate::fault::LineFault;
 use crate::field::{count_in, key_in, layer_in, read_entry, read_need, value_in};
-use crate::number::read_byte;
+use crate::number::{read_byte, read_word};
+use journal::BLANK;
 use reference::Battery;
 use std::alloc::Global;
 
@@ -25,6 +26,13 @@ const ANSWER: &str = "answer SIZE";
 const LOOK: &str = "look LAYER KEY";
 
 const RESTART: &str = "restart kept|lost";
+
+const INSPECT: &str = "inspect COUNT [WORD...]";
+
+const WORDS: &str = "words bbr|flash";
+
+// The most words of a buffer; a journal has fewer.
+const MOST_WORDS: usize = 1 << 20;
 
 const ALONE: &str = "no word behind new or make";
 
@@ -48,8 +56,8 @@ fn read_command(heap: Global, name: &str, words: &[&str]) -> Result<Command, Lin
         "answer" => answering(words).map(Command::Call),
         "look" => looking(words).map(Command::Call),
         "restart" => restarting(words).map(Command::Call),
-        "words" => Err(LineFault::NotBuilt("words")),
-        "inspect" => Err(LineFault::NotBuilt("inspect")),
+        "inspect" => Ok(Command::Inspect(buffer_in(heap, words, INSPECT)?)),
+        "words" => showing(words).map(Command::Words),
         "read"
         | "hostset"
         | "hostdel"
@@ -58,7 +66,7 @@ fn read_command(heap: Global, name: &str, words: &[&str]) -> Result<Command, Lin
         | "hostadd"
         | "hostapply"
         | "hostabandon" => Err(LineFault::NotBuilt("the host end")),
-        _ => read_part(name, words).map(Command::SetUp),
+        _ => read_part(heap, name, words).map(Command::SetUp),
     }
 }
 
@@ -69,12 +77,12 @@ fn alone(words: &[&str], command: Command) -> Result<Command, LineFault> {
     }
 }
 
-fn read_part(name: &str, words: &[&str]) -> Result<Part, LineFault> {
+fn read_part(heap: Global, name: &str, words: &[&str]) -> Result<Part, LineFault> {
     match name {
         "entry" => entry_in(words),
         "need" => need_in(words),
-        "bbr" => store_in(Place::Bbr, words),
-        "flash" => store_in(Place::Flash, words),
+        "bbr" => store_in(heap, Place::Bbr, words),
+        "flash" => store_in(heap, Place::Flash, words),
         "put" => put_in(words),
         "remove" => remove_in(words),
         "clear" => clear_in(words),
@@ -96,19 +104,19 @@ fn need_in(words: &[&str]) -> Result<Part, LineFault> {
     Ok(Part::Need(read_need(first, second)?))
 }
 
-fn store_in(place: Place, words: &[&str]) -> Result<Part, LineFault> {
+fn store_in(heap: Global, place: Place, words: &[&str]) -> Result<Part, LineFault> {
     let choice = match words {
-        ["saver", under @ ..] => Choice::Saved(medium_in(under)?),
-        _ => Choice::Bare(medium_in(words)?),
+        ["saver", under @ ..] => Choice::Saved(medium_in(heap, under)?),
+        _ => Choice::Bare(medium_in(heap, words)?),
     };
     Ok(Part::Store(place, choice))
 }
 
-fn medium_in(words: &[&str]) -> Result<Medium, LineFault> {
+fn medium_in(heap: Global, words: &[&str]) -> Result<Medium, LineFault> {
     match words {
         ["slots"] => Ok(Medium::Slots),
         ["absent"] => Ok(Medium::Absent),
-        ["journal", ..] => Err(LineFault::NotBuilt("journal")),
+        ["journal", buffer @ ..] => Ok(Medium::Words(buffer_in(heap, buffer, STORE)?)),
         _ => Err(LineFault::Form(STORE)),
     }
 }
@@ -158,6 +166,36 @@ fn restarting(words: &[&str]) -> Result<OwnCall, LineFault> {
         ["lost"] => Ok(OwnCall::Restart(Battery::Lost)),
         _ => Err(LineFault::Form(RESTART)),
     }
+}
+
+fn showing(words: &[&str]) -> Result<Place, LineFault> {
+    let [place] = words else {
+        return Err(LineFault::Form(WORDS));
+    };
+    place_in(place, WORDS)
+}
+
+// A buffer of as many words as the first number says: those that are given, as far as there is room, and blanks behind them.
+fn buffer_in(heap: Global, words: &[&str], form: &'static str) -> Result<Vec<u32>, LineFault> {
+    let [count, given @ ..] = words else {
+        return Err(LineFault::Form(form));
+    };
+    let count = count_in(count)?;
+    if count > MOST_WORDS {
+        return Err(LineFault::NoNumber(MOST_WORDS as u64));
+    }
+    let mut buffer = words_in(heap, given)?;
+    buffer.resize(count, BLANK)?;
+    Ok(buffer)
+}
+
+// A word of a journal for each word of the line.
+fn words_in(heap: Global, words: &[&str]) -> Result<Vec<u32>, LineFault> {
+    let mut read = Vec::new(heap);
+    for word in words {
+        read.push(read_word(word).ok_or(LineFault::NoWord)?)?;
+    }
+    Ok(read)
 }
 
 // A byte for each word.

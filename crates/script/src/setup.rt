@@ -1,17 +1,19 @@
 // The set-up of a receiver: the parts of which it will be made, as the commands of a script bring them.
 ghost use Rattle.std.specs.Prelude.{◌≡◌, [], ◌∷◌, ◌++◌, is_ok, if◌then◌else◌};
 ghost use Rattle.layer.specs.Stores.{put_answer, remove_answer, clear_answer, after_put, after_remove, after_clear};
-ghost use Rattle.store.specs.Any.{any_settings, any_usable, any_kind};
+ghost use Rattle.any_store.specs.Any.{any_settings, any_usable, any_kind, any_words};
 ghost use Rattle.std.specs.Borrow.{sem};
 ghost use Rattle.script.specs.Lending.{LendsStore};
-ghost use Rattle.script.specs.Setups.{kind_of, store_at, other_place, Begun};
+ghost use Rattle.script.specs.Setups.{kind_of, settings_in, words_of, store_at, other_place, Begun};
 
 use crate::command::{Choice, Medium, Place};
+use any_store::AnyStore;
 use catalogue::Entry;
+use journal::Journal;
 use layer::{Absent, Saver, Store, StoreFault};
 use rule::Need;
 use std::alloc::{AllocError, Global};
-use store::{AnyStore, SlotTable};
+use store::SlotTable;
 
 #[derive(Drop)]
 pub struct Setup {
@@ -21,18 +23,23 @@ pub struct Setup {
     pub flash: AnyStore,
 }
 
-// An empty store.
+// The store of a choice: an empty one, or a journal with what its words hold.
 pub fn chosen(choice: Choice) -> AnyStore
     ensures kind { any_kind result ≡ kind_of choice }
-    ensures empty { any_settings result ≡ [] }
+    ensures settings { any_settings result ≡ settings_in choice }
+    ensures words { any_words result ≡ words_of choice }
 {
     match choice {
         Choice::Bare(Medium::Slots) => AnyStore::Slots(SlotTable::new()),
         Choice::Bare(Medium::Absent) => AnyStore::Nowhere(Absent),
+        Choice::Bare(Medium::Words(words)) => AnyStore::Words(Journal::open(words)),
         Choice::Saved(Medium::Slots) => AnyStore::SavedSlots(Saver {
             store: SlotTable::new(),
         }),
         Choice::Saved(Medium::Absent) => AnyStore::SavedNowhere(Saver { store: Absent }),
+        Choice::Saved(Medium::Words(words)) => AnyStore::SavedWords(Saver {
+            store: Journal::open(words),
+        }),
     }
 }
 
@@ -79,10 +86,11 @@ impl Setup {
         }
     }
 
-    // An empty store of this choice stands at the place; the other place is left alone.
+    // The store of this choice stands at the place; the other place is left alone.
     pub fn choose(&mut self, place: Place, choice: Choice)
         ensures kind { any_kind (store_at place self.new) ≡ kind_of choice }
-        ensures empty { any_settings (store_at place self.new) ≡ [] }
+        ensures settings { any_settings (store_at place self.new) ≡ settings_in choice }
+        ensures words { any_words (store_at place self.new) ≡ words_of choice }
         ensures other { store_at (other_place place) self.new ≡ store_at (other_place place) self.old }
     {
         *self.store_mut(place) = chosen(choice);

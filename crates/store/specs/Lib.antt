@@ -1,4 +1,3 @@
-pub mod Any
 pub mod Catalogued
 pub mod Slots
 pub mod SlotsLemmas

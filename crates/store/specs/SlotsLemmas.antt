@@ -110,6 +110,14 @@ length_settings (None ∷ ss) a = length_settings ss a
 length_settings (Some s ∷ ss) a =
     grind (arith, nat_tests, length_settings ss, length_with_new s.key s.value (settings_of ss), value_lacks s.key ss)
 
+pub count_found : (ss : List (Option Setting)) → apart ss ≡ true → length (flat_map option_to_list ss) ≡ length (settings_of ss)
+count_found ss a = used_found ss ∙ sym (length_settings ss a)
+  where
+    used_found : (ss : List (Option Setting)) → length (flat_map option_to_list ss) ≡ used_in ss
+    used_found [] = refl
+    used_found (None ∷ ss) = used_found ss
+    used_found (Some s ∷ ss) = ap suc (used_found ss)
+
 used_le : (ss : List (Option Setting)) → used_in ss ≤ length ss
 used_le [] = omega arith
 used_le (None ∷ ss) = let h = used_le ss in omega arith

@@ -1,5 +1,6 @@
 // The lines that answer the commands.
 use catalogue::CatalogueFault;
+use journal::{BLANK, JournalFault};
 use layer::StoreFault;
 use reference::{Call, CallFault, PartsFault, Refusal, Telling, Verdict};
 use replay::{Answering, Event};
@@ -38,6 +39,53 @@ impl fmt::Display for WriteLine {
             }
         }
     }
+}
+
+// What a buffer of words holds, or what is wrong with it.
+#[derive(Clone, Copy)]
+pub struct InspectLine(pub Result<usize, JournalFault>);
+
+impl fmt::Display for InspectLine {
+    fn fmt<W: fmt::Write>(&self, f: &mut fmt::Formatter<W>) -> fmt::Result {
+        let InspectLine(inspected) = *self;
+        match inspected {
+            Ok(count) => write!(f, "inspect ok {count}"),
+            Err(fault) => {
+                let number = fault.number();
+                let word = fault.word();
+                write!(f, "inspect {number} {word}")
+            }
+        }
+    }
+}
+
+// The words of a journal up to its last that is not blank; none where the store is no journal.
+#[derive(Clone, Copy)]
+pub struct WordsLine<'a>(pub Option<&'a [u32]>);
+
+impl<'a> fmt::Display for WordsLine<'a> {
+    fn fmt<W: fmt::Write>(&self, f: &mut fmt::Formatter<W>) -> fmt::Result {
+        let WordsLine(Some(words)) = *self else {
+            return f.write_str("words none");
+        };
+        let shown = written_part(words);
+        let count = shown.len();
+        write!(f, "words {count}")?;
+        for word in shown {
+            write!(f, " {word:08x}")?;
+        }
+        Ok(())
+    }
+}
+
+// The words without the blanks at their end.
+pub fn written_part(words: &[u32]) -> &[u32] {
+    let blanks = words
+        .iter()
+        .rev()
+        .take_while(|word| **word == BLANK)
+        .count();
+    &words[..words.len() - blanks]
 }
 
 // Whether the parts were accepted.

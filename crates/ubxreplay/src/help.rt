@@ -5,7 +5,7 @@ usage: ubxreplay [FILE]
 
 Reads a script from FILE, or from standard input, and prints a line for each
 command that answers. Words stand apart by spaces; keys and bytes are
-hexadecimal, other numbers decimal. Blank lines, and lines that begin with #,
+hexadecimal, as words of a journal are, other numbers decimal. Blank lines, and lines that begin with #,
 are skipped. A line that is no command here prints `error line N: WHAT`, and
 the run goes on.
 
@@ -13,7 +13,8 @@ set-up:
     entry KEY KIND DEFAULT LOW HIGH   one more item of the catalogue
     need A B                          item A, where it is not 0, needs item B
     bbr|flash slots|absent            an empty table of slots, or no store
-    bbr|flash saver slots|absent      the same under a saver
+    bbr|flash journal COUNT [WORD...] a journal on COUNT words: these, then blanks
+    bbr|flash saver ...               any of the three under a saver
     put bbr|flash KEY VALUE           prints `put ok` or the refusal's number
     remove bbr|flash KEY
     clear bbr|flash
@@ -24,7 +25,10 @@ and calls:
     answer SIZE                       with a buffer of SIZE bytes
     look LAYER KEY                    0 RAM, 1 BBR, 2 Flash, 7 the defaults
     restart kept|lost                 what the battery did to BBR
-    new                               begins another receiver, anywhere
+anywhere:
+    new                               begins another receiver
+    inspect COUNT [WORD...]           what a buffer of words holds, or its fault
+    words bbr|flash                   a journal's words, up to the last not blank
 
 example:
     printf '%s\\n' 'entry 20510001 0 65 8 119' make 'look 0 20510001' | ubxreplay

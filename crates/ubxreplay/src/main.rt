@@ -5,6 +5,7 @@
 
 mod answers;
 mod help;
+mod seen;
 mod session;
 
 use anyhow::anyhow;

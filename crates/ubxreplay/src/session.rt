@@ -1,19 +1,28 @@
 // What a script has come to: the set-up of a receiver and, behind its make, the lines that are answered when all of them are read.
-use crate::answers::{ErrorLine, EventLine, MakeLine, WriteLine};
+use crate::answers::{ErrorLine, EventLine, InspectLine, MakeLine, WordsLine, WriteLine};
+use crate::seen::{SeenWords, Wanted};
 use anyhow::Context;
 use configuration::check;
+use journal::inspect;
 use layer::StoreFault;
 use receiver::Parts;
 use reference::Call;
-use replay::{Event, replay};
+use replay::{Event, replay_watched};
 use rule::{Both, Need, Needs, Ranges};
-use script::{Command, LineFault, OwnCall, Part, Setup, read_line};
+use script::{Command, LineFault, OwnCall, Part, Place, Setup, read_line};
 use std::alloc::{AllocError, Global};
 use std::io::Write;
 use std::{io, mem};
 
-// A line behind make that is answered: a call, or what is wrong with the line.
-type Step = Result<OwnCall, ErrorLine>;
+// A line behind make that is answered when all calls were carried out.
+#[derive(Drop)]
+enum Step {
+    Call(OwnCall),
+    // the words of a journal as they stand then
+    Words(Place),
+    Inspected(InspectLine),
+    Wrong(ErrorLine),
+}
 
 #[derive(Drop)]
 pub struct Session<'a, W> {
@@ -53,7 +62,10 @@ impl<'a, W: Write> Session<'a, W> {
             }
             (Command::SetUp(part), None) => self.set_up(part),
             (Command::Make, None) => self.make(),
-            (Command::Call(call), Some(steps)) => Ok(steps.push(Ok(call))?),
+            (Command::Call(call), Some(steps)) => Ok(steps.push(Step::Call(call))?),
+            (Command::Words(place), Some(steps)) => Ok(steps.push(Step::Words(place))?),
+            (Command::Words(place), None) => self.tell_words(place),
+            (Command::Inspect(words), _) => self.tell_inspected(words.as_slice()),
             (Command::Call(_), None) => self.refuse(number, LineFault::CallBeforeMake),
             (_, Some(_)) => self.refuse(number, LineFault::SetUpAfterMake),
         }
@@ -62,9 +74,29 @@ impl<'a, W: Write> Session<'a, W> {
     fn refuse(&mut self, number: usize, fault: LineFault) -> anyhow::Result<()> {
         let line = ErrorLine { number, fault };
         match &mut self.steps {
-            Some(steps) => steps.push(Err(line))?,
+            Some(steps) => steps.push(Step::Wrong(line))?,
             None => self.out.writeln(line)?,
         }
+        Ok(())
+    }
+
+    fn tell_inspected(&mut self, words: &[u32]) -> anyhow::Result<()> {
+        let line = InspectLine(inspect(words).map(|held| held.count()));
+        match &mut self.steps {
+            Some(steps) => steps.push(Step::Inspected(line))?,
+            None => self.out.writeln(line)?,
+        }
+        Ok(())
+    }
+
+    // Before make a store stands in the set-up.
+    fn tell_words(&mut self, place: Place) -> anyhow::Result<()> {
+        let Setup { bbr, flash, .. } = &self.setup;
+        let store = match place {
+            Place::Bbr => bbr,
+            Place::Flash => flash,
+        };
+        self.out.writeln(WordsLine(store.words()))?;
         Ok(())
     }
 
@@ -138,29 +170,61 @@ fn answer_steps<W: Write>(
     } = setup;
     let rule = rule_of(needs.as_slice());
     let calls = calls_of(heap, steps)?;
+    let wanted = wanted_of(heap, steps)?;
+    let mut seen = SeenWords::new(heap, wanted.as_slice());
     let parts = Parts { bbr, flash, rule };
-    let replayed = replay(heap, entries.as_slice(), parts, calls.as_slice())?;
-    print_steps(out, steps, replayed.log.as_slice())
+    let replayed = replay_watched(heap, entries.as_slice(), parts, calls.as_slice(), &mut seen)?;
+    print_steps(out, steps, replayed.log.as_slice(), seen.words())
 }
 
 // The calls among the steps.
 fn calls_of<'a>(heap: Global, steps: &'a [Step]) -> Result<Vec<Call<'a>>, AllocError> {
     steps
         .iter()
-        .filter_map(|step| step.as_ref().ok())
-        .map(Call::from)
+        .filter_map(|step| match step {
+            Step::Call(call) => Some(Call::from(call)),
+            _ => None,
+        })
         .collect(heap)
 }
 
-// The log has one event for each call.
-fn print_steps<W: Write>(out: &mut W, steps: &[Step], log: &[Event<'_>]) -> anyhow::Result<()> {
-    let mut events = log.iter();
+// Which words are to be shown, and after how many calls.
+fn wanted_of(heap: Global, steps: &[Step]) -> Result<Vec<Wanted>, AllocError> {
+    let mut wanted = Vec::new(heap);
+    let mut calls = 0usize;
     for step in steps {
         match step {
-            Err(line) => out.writeln(*line)?,
-            Ok(_) => {
+            Step::Call(_) => calls = calls.saturating_add(1),
+            Step::Words(place) => wanted.push(Wanted {
+                calls,
+                place: *place,
+            })?,
+            _ => {}
+        }
+    }
+    Ok(wanted)
+}
+
+// The log has one event for each call, and the words that were seen are in the order of their lines.
+fn print_steps<W: Write>(
+    out: &mut W,
+    steps: &[Step],
+    log: &[Event<'_>],
+    seen: &[Option<Vec<u32>>],
+) -> anyhow::Result<()> {
+    let mut events = log.iter();
+    let mut words = seen.iter();
+    for step in steps {
+        match step {
+            Step::Wrong(line) => out.writeln(*line)?,
+            Step::Inspected(line) => out.writeln(*line)?,
+            Step::Call(_) => {
                 let event = events.next().context("the log ends before the calls do")?;
                 out.writeln(EventLine(event))?;
+            }
+            Step::Words(_) => {
+                let seen = words.next().context("not all words were seen")?;
+                out.writeln(WordsLine(seen.as_ref().map(|words| words.as_slice())))?;
             }
         }
     }

@@ -7,7 +7,7 @@ ghost use Rattle.receiver.specs.State.{items_of, Kept, took_event, looked_event,
 
 use super::Receiver;
 use super::meaning::Meaning;
-use configuration::{after_battery, is_known, stack_ram};
+use configuration::{StoreMeaning, after_battery, is_known, stack_ram};
 use held::Held;
 use layer::{Layer, Store};
 use reference::{Battery, CallFault};
@@ -40,6 +40,20 @@ impl<B: Store, F: Store, R: Rule> Receiver<B, F, R> {
         ensures { result ≡ length (⟦<Self as Meaning>⟧.state self.now).held_bytes }
     {
         self.held.as_slice().len()
+    }
+
+    // The store at BBR's place, to be read.
+    pub fn bbr(&self) -> &B
+        ensures { ⟦<B as StoreMeaning>⟧.store result.now ≡ (⟦<Self as Meaning>⟧.state self.now).bbr }
+    {
+        &self.layers.upper.upper
+    }
+
+    // The store at Flash's place, to be read.
+    pub fn flash(&self) -> &F
+        ensures { ⟦<F as StoreMeaning>⟧.store result.now ≡ (⟦<Self as Meaning>⟧.state self.now).flash }
+    {
+        &self.layers.upper.lower
     }
 
     // Whether an item has this key.

@@ -1,5 +1,5 @@
 // A table of slots as a layer and as a store.
-ghost use Rattle.std.specs.Prelude.{◌≡◌, ◌<◌, true, false, [], None, Ok, Err, if◌then◌else◌, MatchOption, slice_index_or};
+ghost use Rattle.std.specs.Prelude.{◌≡◌, ◌<◌, true, false, [], length, None, Ok, Err, if◌then◌else◌, MatchOption, slice_index_or};
 ghost use Rattle.layer.specs.declared.fault.StoreFault.TheVariants.{Full};
 ghost use Rattle.layer.specs.Settings.{is_setting, without};
 ghost use Rattle.layer.specs.Stores.{room, after_put};
@@ -24,6 +24,13 @@ impl SlotTable {
         ensures { settings_of result.slots ≡ settings_of self.now.slots }
     {
         SlotTable { slots: self.slots }
+    }
+
+    // How many settings it holds.
+    pub fn count(&self) -> usize
+        ensures { result ≡ length (settings_of self.now.slots) }
+    {
+        self.slots.iter().copied().flatten().count()
     }
 
     // The slot that is used for a key.

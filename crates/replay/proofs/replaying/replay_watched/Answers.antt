@@ -1,7 +1,7 @@
 use Rattle.std.proofs.Common.{ap}
 use Rattle.std.proofs.lemmas.Result.{IfOk-weaker}
 use Rattle.replay.proofs.Runs.{replays}
-use Rattle.replay.proofs.replaying.replay.Goals as goal
+use Rattle.replay.proofs.replaying.replay_watched.Goals as goal
 
 pub returns : goal.returns
 returns g c =
