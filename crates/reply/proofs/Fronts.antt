@@ -10,7 +10,7 @@ use Rattle.layer.specs.declared.setting.Setting.{Setting}
 use Rattle.layer.specs.Settings.{setting}
 use Rattle.reference.specs.Requests.{bytes_at}
 use Rattle.request.specs.Keys.{key_in}
-use Rattle.reply.specs.Pairs.{value_under, pair_under, first_pair}
+use Rattle.reply.specs.Pairs.{value_under, pair_under, first_pair, pair_size}
 
 some_value : (b : Bool) (w v : ℕ) → Some v ≡ cond b (Some w) None → b ≡ true
 some_value true w v e = refl
@@ -47,8 +47,10 @@ module _ (bs : List ℕ) (k : ℕ) (key : Some k ≡ key_in bs) where
       pub read : (v : ℕ) → Some v ≡ value_read s (take (n - 4) (drop 4 bs)) → first_pair bs ≡ Some (setting k v)
       read v e = sized (Some s) size ∙ ap (option_map (setting k)) (sym (behind_is (Some v) e))
 
-      pub size_is : (w : ℕ) → w ≡ width_of s → 4 + w ≡ 4 + bytes_at (size_of k)
-      size_is w e = ap (λ m. 4 + m) e ∙ ap (λ (o : Option Size). 4 + bytes_at o) size
+      pub size_is : (v w : ℕ) → w ≡ width_of s → 4 + w ≡ pair_size (setting k v)
+      size_is v w e =
+          let same : 4 + bytes_at (size_of k) ≡ pair_size (setting k v) = omega arith in
+          ap (λ m. 4 + m) e ∙ ap (λ (o : Option Size). 4 + bytes_at o) size ∙ same
 
       pub fits : (v : ℕ) → Some v ≡ value_read s (take (n - 4) (drop 4 bs)) → 4 ≤ length bs → 4 + width_of s ≤ length bs
       fits v e long =

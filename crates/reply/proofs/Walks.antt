@@ -1,5 +1,6 @@
 -- The pairs of some bytes, one further and at their end, and counted from another place.
-use Rattle.std.proofs.Common.{◌≡◌, ℕ, zero, suc, ◌+◌, ◌-◌, ◌<◌, ◌≤◌, Bool, true, false, cond, List, [], ◌∷◌, length, drop, Some, None, Ok, Err, Option, Result, sym, refl, ap, ◌∙◌, le_of_suc-le-suc, not-suc-le-zero, suc-add, add-suc, add-zero, arith}
+use Rattle.std.proofs.Common.{◌≡◌, ℕ, zero, suc, ◌+◌, ◌-◌, ◌<◌, ◌≤◌, Bool, true, false, cond, List, [], ◌∷◌, length, take, drop, Some, None, Ok, Err, Option, Result, sym, refl, ap, ap₂, ◌∙◌, le_of_suc-le-suc, not-suc-le-zero, suc-add, add-suc, add-zero, arith}
+use Rattle.std.proofs.lemmas.List.{length-drop, drop-drop, take_rest}
 use Rattle.std.specs.Result.{is_ok}
 use Rattle.layer.specs.declared.setting.Setting.{Setting}
 use Rattle.reply.specs.declared.fault.ReadFault.{ReadFault}
@@ -91,3 +92,59 @@ all_of_none p q bs e = go (pairs_read p bs) (pairs_read q bs) e (pairs_moved p q
     go (Ok ss) (Ok ts) e m = cc
     go (Ok ss) (Err f) e m = absurd (cc)
     go (Err f) t e m = absurd (cc)
+
+-- The iterator: none is left where none is at the front; else one less
+
+pub none_left : (bs : List ℕ) → first_pair bs ≡ None → settings_in bs ≡ []
+unfolding pairs_from
+none_left [] e = refl
+none_left (x ∷ xs) e = ap settings_of (pairs_bad 0 (x ∷ xs) e (omega arith))
+
+module _ (bs rest : List ℕ) (s : Setting) (n : ℕ) (e : first_pair bs ≡ Some s) (size : n ≡ pair_size s) (fits : n ≤ length bs) (behind : rest ≡ drop n bs) (whole : is_ok (pairs_read 0 bs) ≡ true) where
+  step_is : pairs_read 0 bs ≡ in_front_of s (pairs_read n rest)
+  step_is =
+      let same : n ≡ 0 + pair_size s = omega arith in
+      pairs_step 0 bs s e (omega arith)
+      ∙ ap (λ m. in_front_of s (pairs_read m (drop (pair_size s) bs))) (sym same)
+      ∙ ap (λ (xs : List ℕ). in_front_of s (pairs_read n xs)) (ap (λ m. drop m bs) (sym size) ∙ sym behind)
+
+  left_whole : (r t : Result (List Setting) ReadFault) → is_ok (in_front_of s r) ≡ true → pairs_only r ≡ pairs_only t → is_ok t ≡ true
+  left_whole (Ok ss) (Ok ts) o m = refl
+  left_whole (Ok ss) (Err f) o m = absurd (cc)
+  left_whole (Err f) t o m = absurd (cc)
+
+  left_less : (r t : Result (List Setting) ReadFault) → is_ok (in_front_of s r) ≡ true → pairs_only r ≡ pairs_only t → settings_of (in_front_of s r) ≡ s ∷ settings_of t
+  left_less (Ok ss) (Ok ts) o m = cc
+  left_less (Ok ss) (Err f) o m = absurd (cc)
+  left_less (Err f) t o m = absurd (cc)
+
+  pub next_whole : is_ok (pairs_read 0 rest) ≡ true
+  next_whole = left_whole (pairs_read n rest) (pairs_read 0 rest) (sym (ap is_ok step_is) ∙ whole) (pairs_moved n 0 0 rest)
+
+  pub next_less : settings_in bs ≡ s ∷ settings_in rest
+  next_less = ap settings_of step_is ∙ left_less (pairs_read n rest) (pairs_read 0 rest) (sym (ap is_ok step_is) ∙ whole) (pairs_moved n 0 0 rest)
+
+-- The walk that has come to a place of the bytes: at a bad pair, one pair further, and at the end
+
+module _ (place at : ℕ) (bs : List ℕ) (all : Option ReadFault) (inv : fault_of (pairs_read (place + at) (drop at bs)) ≡ all) where
+  pub walk_bad : at < length bs → first_pair (take (length bs - at) (drop at bs)) ≡ None → Some (BadPair (place + at)) ≡ all
+  walk_bad lt none =
+      let len = length-drop at bs in
+      let here : first_pair (drop at bs) ≡ None = sym (ap first_pair (take_rest bs at)) ∙ none in
+      sym (ap fault_of (pairs_bad (place + at) (drop at bs) here (omega arith))) ∙ inv
+
+  pub walk_on : (s : Setting) (n : ℕ) → first_pair (take (length bs - at) (drop at bs)) ≡ Some s → n ≡ pair_size s → n ≤ length (take (length bs - at) (drop at bs))
+      → (at + n ≤ length bs) × (fault_of (pairs_read (place + (at + n)) (drop (at + n) bs)) ≡ all)
+  walk_on s n some size fits =
+      let here : first_pair (drop at bs) ≡ Some s = sym (ap first_pair (take_rest bs at)) ∙ some in
+      let whole : length (take (length bs - at) (drop at bs)) ≡ length (drop at bs) = ap length (take_rest bs at) in
+      let len = length-drop at bs in
+      let next : place + (at + n) ≡ place + at + pair_size s = omega arith in
+      let behind : drop (at + n) bs ≡ drop (pair_size s) (drop at bs) = sym (ap (λ m. drop m (drop at bs)) (sym size) ∙ drop-drop n at bs) in
+      (
+        omega arith,
+        ap₂ (λ (m : ℕ) (xs : List ℕ). fault_of (pairs_read m xs)) next behind ∙ fault_step (place + at) (drop at bs) s here (omega arith) ∙ inv,
+      )
+
+  pub walk_end : length bs ≤ at → None ≡ all
+  walk_end le = let len = length-drop at bs in sym (ap fault_of (pairs_end (place + at) (drop at bs) (omega arith))) ∙ inv
