@@ -1,5 +1,5 @@
 -- Reading: which message the first heard frame of the input is, where it stands, and what stands behind it.
-use Rattle.std.specs.Prelude.{ℕ, ◌+◌, ◌*◌, Bool, cond, ◌&&◌, List, length, drop, Some, None, Ok, Err, Option, Result, ◌==◌, nat_le, slice_index}
+use Rattle.std.specs.Prelude.{ℕ, ◌+◌, ◌*◌, cond, ◌&&◌, List, length, drop, Some, None, Ok, Err, Option, Result, ◌==◌, nat_le, slice_index}
 use Rattle.frame.specs.Frames.{Message}
 use Rattle.frame.specs.Scanning.{Finding, finding}
 use Rattle.layer.specs.declared.setting.Setting.{Setting}
@@ -34,26 +34,32 @@ verdict_or m =
     let id : ℕ = slice_index m.payload 1 in
     cond (m.id == ack_id) (ack class id) (cond (m.id == nak_id) (nak class id) (other m))
 
--- Values are a reply to a get: version 1, the layer, the position in two bytes (low byte first), and from byte 4 on the pairs.
-abbrev pub is_verdict : Message → Bool
-is_verdict m = m.class == verdict_class && length m.payload == 2
+unfoldable pub verdict_said : Message → Saying
+verdict_said m = cond (length m.payload == 2) (verdict_or m) (other m)
 
-abbrev pub is_values : Message → Bool
-is_values m = m.class == configuration_class && (m.id == valget && (nat_le 4 (length m.payload) && slice_index m.payload 0 == 1))
+-- Values are the reply to a get: version 1, the layer, the position in two bytes (low byte first), and from byte 4 on the pairs.
+
+abbrev pub values_version : ℕ
+values_version = 1
 
 abbrev pub values_or_fault : ℕ → ℕ → Result (List Setting) ReadFault → Result Saying ReadFault
 values_or_fault layer position (Ok ss) = Ok (values layer position ss)
 values_or_fault layer position (Err f) = Err f
 
 -- the values in a payload whose first byte stands at a place of the input
-abbrev pub values_said : ℕ → List ℕ → Result Saying ReadFault
-values_said place p = values_or_fault (slice_index p 1) (slice_index p 2 + 256 * slice_index p 3) (pairs_read (place + 4) (drop 4 p))
+abbrev pub values_in : ℕ → List ℕ → Result Saying ReadFault
+values_in place p = values_or_fault (slice_index p 1) (slice_index p 2 + 256 * slice_index p 3) (pairs_read (place + 4) (drop 4 p))
+
+unfoldable pub values_said : ℕ → Message → Result Saying ReadFault
+values_said place m =
+    let v : Result Saying ReadFault = values_in place m.payload in
+    cond (nat_le 4 (length m.payload) && slice_index m.payload 0 == values_version) v (Ok (other m))
 
 -- What a frame says whose first byte stands at a place of the input; six bytes stand before its payload.
 unfoldable pub said : ℕ → Message → Result Saying ReadFault
 said place m =
-    let v : Result Saying ReadFault = values_said (place + 6) m.payload in
-    cond (is_verdict m) (Ok (verdict_or m)) (cond (is_values m) v (Ok (other m)))
+    let v : Result Saying ReadFault = values_said (place + 6) m in
+    cond (m.class == verdict_class) (Ok (verdict_said m)) (cond (m.class == configuration_class && m.id == valget) v (Ok (other m)))
 
 -- what was read: the place of its first byte, what it says, and the bytes behind it
 pub record Reading : Type 0 where

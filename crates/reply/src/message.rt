@@ -1,10 +1,9 @@
 // What a frame says.
-ghost use Rattle.std.specs.Prelude.{◌≡◌, ◌+◌, ◌*◌, ◌<◌, ◌^◌, length, slice_index};
+ghost use Rattle.std.specs.Prelude.{◌≡◌, ◌+◌, ◌<◌, ◌^◌, length};
 ghost use Rattle.frame.specs.Frames.{size_of};
 ghost use Rattle.frame.specs.Meaning.{message_of};
-ghost use Rattle.reply.specs.Messages.{said, values_or_fault};
-ghost use Rattle.reply.specs.Meaning.{said_of};
-ghost use Rattle.reply.specs.Pairs.{pairs_read};
+ghost use Rattle.reply.specs.Messages.{said, verdict_said, values_said};
+ghost use Rattle.reply.specs.Meaning.{saying_of, said_of};
 
 use crate::fault::ReadFault;
 use crate::pairs::Pairs;
@@ -38,35 +37,46 @@ pub enum Message<'a> {
     Other(Frame<'a>),
 }
 
-// The values in a payload at a place of the input.
-fn values_in<'a>(
-    layer: u8,
-    position: [u8; 2],
-    pairs: &'a [u8],
-    place: usize,
-) -> Result<Message<'a>, ReadFault>
-    requires { place + length pairs.now < 2 ^ 64 }
-    ensures { said_of result ≡ values_or_fault layer (slice_index position 0 + 256 * slice_index position 1) (pairs_read place pairs.entry.now) }
+// What a frame of the verdicts' class says.
+#[tactic(auto, unfolding(crate::specs::Messages::verdict_said))]
+fn verdict_in(frame: Frame<'_>) -> Message<'_>
+    ensures { saying_of result ≡ verdict_said (message_of frame.entry) }
 {
-    let pairs = Pairs::read(pairs, place)?;
+    let &[class, id] = frame.payload else {
+        return Message::Other(frame);
+    };
+    match frame.id {
+        ACK => Message::Ack { class, id },
+        NAK => Message::Nak { class, id },
+        _ => Message::Other(frame),
+    }
+}
+
+// What a reply to a get says whose payload begins at a place of the input.
+fn values_in(frame: Frame<'_>, place: usize) -> Result<Message<'_>, ReadFault>
+    requires { place + length frame.payload.now < 2 ^ 64 }
+    ensures { said_of result ≡ values_said place (message_of frame.entry) }
+{
+    let [REPLY_VERSION, layer, low, high, pairs @ ..] = frame.payload else {
+        return Ok(Message::Other(frame));
+    };
+    let pairs = Pairs::read(pairs, place + HEAD)?;
     Ok(Message::Values {
-        layer,
-        position: u16::from_le_bytes(position),
+        layer: *layer,
+        position: u16::from_le_bytes([*low, *high]),
         pairs,
     })
 }
 
 // What a frame says whose first byte stands at a place of the input.
+#[tactic(auto, unfolding(crate::specs::Messages::said))]
 pub(crate) fn message_in(frame: Frame<'_>, place: usize) -> Result<Message<'_>, ReadFault>
     requires { place + size_of (message_of frame) < 2 ^ 64 }
     ensures { said_of result ≡ said place (message_of frame.entry) }
 {
-    match (frame.class, frame.id, frame.payload) {
-        (VERDICT_CLASS, ACK, &[class, id]) => Ok(Message::Ack { class, id }),
-        (VERDICT_CLASS, NAK, &[class, id]) => Ok(Message::Nak { class, id }),
-        (CONFIGURATION_CLASS, VALGET, [REPLY_VERSION, layer, low, high, pairs @ ..]) => {
-            values_in(*layer, [*low, *high], pairs, place + HEADER + HEAD)
-        }
+    match (frame.class, frame.id) {
+        (VERDICT_CLASS, _) => Ok(verdict_in(frame)),
+        (CONFIGURATION_CLASS, VALGET) => values_in(frame, place + HEADER),
         _ => Ok(Message::Other(frame)),
     }
 }
