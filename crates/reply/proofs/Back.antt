@@ -1,26 +1,25 @@
 -- What a receiver writes is read back.
-use Rattle.std.proofs.Common.{◌≡◌, ℕ, zero, suc, ◌+◌, ◌-◌, ◌*◌, ◌%◌, ◌^◌, ◌<◌, ◌≤◌, Bool, true, false, cond, ◌&&◌, leb, ltb, List, [], ◌∷◌, ◌++◌, length, get_or, take, drop, Some, None, Ok, Err, Option, Result, sym, refl, ap, ap₂, ◌∙◌, subst, append_assoc, arith, length-append}
+use Rattle.std.proofs.Common.{◌≡◌, ℕ, zero, suc, ◌+◌, ◌*◌, ◌^◌, ◌<◌, ◌≤◌, Bool, true, false, cond, ◌&&◌, ltb, List, [], ◌∷◌, ◌++◌, length, take, drop, Some, None, Ok, Option, Result, sym, refl, ap, ◌∙◌, append_assoc, arith, length-append}
 use Rattle.std.specs.List.{AllByRecursion}
 use Rattle.std.specs.Option.{option_map}
 use Rattle.std.proofs.lemmas.List.{take_at, drop_at}
-use Rattle.std.proofs.lemmas.Bool.{ltb-false, le-leb, ltb-true, eqb-true, leb-true, lt-leb}
 use Rattle.std.proofs.lemmas.Bool.Decides.{nat_tests}
 use Rattle.frame.specs.Frames.{max_payload, Message, frame_bytes}
 use Rattle.frame.specs.Written.{patched}
 use Rattle.frame.proofs.Written.{patched_front}
 use Rattle.item.specs.declared.key.Size.{Size}
-use Rattle.item.specs.Keys.{size_of, width_of, size_bits, group_of, item_bits, well_formed, fits, fits_size}
+use Rattle.item.specs.Keys.{size_of, width_of, well_formed, fits, fits_size}
 use Rattle.item.specs.Values.{number, bytes_of, value_bytes, value_read}
 use Rattle.item.proofs.Values.{number_bytes, length_bytes, read_back}
 use Rattle.layer.specs.declared.setting.Setting.{Setting}
 use Rattle.layer.specs.Settings.{setting, value_under as held_under, is_setting, Sound}
 use Rattle.reference.specs.Requests.{bytes_at}
-use Rattle.reference.specs.Receiver.{pair_under as pair_held, held_pairs, pair_bytes, pairs_bytes, position_of, page_pairs, page, ack_of, nak_of, verdict_frame}
+use Rattle.reference.specs.Receiver.{pair_under as pair_held, held_pairs, pair_bytes, pairs_bytes, position_of, page_pairs, page, verdict_frame}
 use Rattle.reference.proofs.Verdicts.{page_length}
 use Rattle.request.specs.Keys.{key_in}
 use Rattle.reply.specs.declared.fault.ReadFault.{ReadFault}
-use Rattle.reply.specs.Pairs.{first_pair, pair_size, in_front_of, pairs_from, pairs_read}
-use Rattle.reply.specs.Messages.{Saying, ack, nak, values, values_or_fault, verdict_said, values_said, said, Reading, reading_at, read_message}
+use Rattle.reply.specs.Pairs.{first_pair, pair_size, in_front_of, pairs_read}
+use Rattle.reply.specs.Messages.{Saying, ack, nak, values, values_or_fault, verdict_said, said, Reading, reading_at, read_message}
 use Rattle.reply.specs.Back.{at_start, page_said, ReadsBack}
 use Rattle.reply.proofs.Fronts.{sized}
 use Rattle.reply.proofs.Walks.{pairs_step, pairs_end}

@@ -6,7 +6,6 @@ use Rattle.std.specs.Option.{option_map}
 use Rattle.item.specs.declared.key.Size.{Size}
 use Rattle.item.specs.Keys.{size_of, width_of, well_formed}
 use Rattle.item.specs.Values.{value_read}
-use Rattle.layer.specs.declared.setting.Setting.{Setting}
 use Rattle.layer.specs.Settings.{setting}
 use Rattle.reference.specs.Requests.{bytes_at}
 use Rattle.request.specs.Keys.{key_in}

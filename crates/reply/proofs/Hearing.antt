@@ -1,5 +1,5 @@
 -- The first frame of the input: it lies within the input, and a written frame at its start is the first.
-use Rattle.std.proofs.Common.{◌≡◌, ℕ, suc, ◌+◌, ◌≤◌, List, [], ◌∷◌, ◌++◌, length, drop, Some, None, Option, sym, refl, ap, ◌∙◌, arith}
+use Rattle.std.proofs.Common.{◌≡◌, ℕ, suc, ◌+◌, ◌≤◌, List, [], ◌∷◌, ◌++◌, length, Some, Option, sym, refl, ap, ◌∙◌, arith}
 use Rattle.std.proofs.lemmas.List.{drop_at}
 use Rattle.std.specs.Option.{option_map}
 use Rattle.frame.specs.declared.format.Frame.{Frame}
@@ -9,8 +9,7 @@ use Rattle.frame.specs.Scanning.{Finding, finding_at, finding}
 use Rattle.frame.specs.Meaning.{message_of, finding_of}
 use Rattle.frame.proofs.Frames.{intact_fits, intact_more, frame_length, frame_is_intact}
 use Rattle.frame.proofs.Scanning.{find_none, find_intact}
-use Rattle.reply.specs.declared.fault.ReadFault.{ReadFault}
-use Rattle.reply.specs.Messages.{said, Reading, reading_at, heard_at, read_message}
+use Rattle.reply.specs.Messages.{said, reading_at, heard_at, read_message}
 
 -- What a search finds lies within the bytes
 

@@ -1,12 +1,12 @@
 -- What a frame says, by its parts.
-use Rattle.std.proofs.Common.{◌≡◌, ℕ, ◌+◌, ◌-◌, ◌*◌, ◌≤◌, true, false, cond, ◌&&◌, eqb, leb, List, length, get_or, take, drop, Ok, Err, Result, sym, refl, ap, ◌∙◌, arith}
+use Rattle.std.proofs.Common.{◌≡◌, ℕ, ◌+◌, ◌-◌, ◌*◌, ◌≤◌, ◌&&◌, eqb, leb, List, length, get_or, take, drop, Result, sym, ap, ◌∙◌, arith}
 use Rattle.std.proofs.lemmas.List.{take_rest}
 use Rattle.std.proofs.lemmas.Bool.{le-leb, eq-eqb, and_from, cond-true}
 use Rattle.frame.specs.Frames.{Message}
 use Rattle.layer.specs.declared.setting.Setting.{Setting}
 use Rattle.reply.specs.declared.fault.ReadFault.{ReadFault}
 use Rattle.reply.specs.Pairs.{pairs_read}
-use Rattle.reply.specs.Messages.{Saying, values, other, values_or_fault, values_in, values_said}
+use Rattle.reply.specs.Messages.{values_or_fault, values_in, values_said}
 
 pub values_are : (place : ℕ) (m : Message) → 4 ≤ length m.payload → get_or m.payload 0 0 ≡ 1 → values_said place m ≡ values_in place m.payload
 unfolding values_said

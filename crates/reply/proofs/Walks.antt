@@ -1,5 +1,5 @@
 -- The pairs of some bytes, one further and at their end, and counted from another place.
-use Rattle.std.proofs.Common.{◌≡◌, ℕ, zero, suc, ◌+◌, ◌-◌, ◌<◌, ◌≤◌, Bool, true, false, cond, List, [], ◌∷◌, length, take, drop, Some, None, Ok, Err, Option, Result, sym, refl, ap, ap₂, ◌∙◌, le_of_suc-le-suc, not-suc-le-zero, suc-add, add-suc, add-zero, arith}
+use Rattle.std.proofs.Common.{◌≡◌, ℕ, zero, suc, ◌+◌, ◌-◌, ◌<◌, ◌≤◌, true, List, [], ◌∷◌, length, take, drop, Some, None, Ok, Err, Option, Result, sym, refl, ap, ap₂, ◌∙◌, le_of_suc-le-suc, not-suc-le-zero, suc-add, add-suc, add-zero, arith}
 use Rattle.std.proofs.lemmas.List.{length-drop, drop-drop, take_rest}
 use Rattle.std.specs.Result.{is_ok}
 use Rattle.layer.specs.declared.setting.Setting.{Setting}
@@ -140,8 +140,7 @@ module _ (place at : ℕ) (bs : List ℕ) (all : Option ReadFault) (inv : fault_
       let whole : length (take (length bs - at) (drop at bs)) ≡ length (drop at bs) = ap length (take_rest bs at) in
       let len = length-drop at bs in
       let next : place + (at + n) ≡ place + at + pair_size s = omega arith in
-      let behind : drop (at + n) bs ≡ drop (pair_size s) (drop at bs) = sym (ap (λ m. drop m (drop at bs)) (sym size) ∙ drop-drop n at bs) in
-      (
+      let behind : drop (at + n) bs ≡ drop (pair_size s) (drop at bs) = sym (ap (λ m. drop m (drop at bs)) (sym size) ∙ drop-drop n at bs) in (
         omega arith,
         ap₂ (λ (m : ℕ) (xs : List ℕ). fault_of (pairs_read m xs)) next behind ∙ fault_step (place + at) (drop at bs) s here (omega arith) ∙ inv,
       )

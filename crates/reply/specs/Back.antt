@@ -1,5 +1,5 @@
 -- What a receiver writes is read back: its verdicts, and its replies to a get with the verdict behind them.
-use Rattle.std.specs.Prelude.{◌≡◌, ℕ, ◌≤◌, true, List, [], ◌∷◌, ◌++◌, length, Ok, Result, slice_index}
+use Rattle.std.specs.Prelude.{◌≡◌, ℕ, ◌≤◌, List, ◌++◌, length, Ok, Result, slice_index}
 use Rattle.frame.specs.Frames.{Message, frame_bytes}
 use Rattle.layer.specs.declared.setting.Setting.{Setting}
 use Rattle.layer.specs.Settings.{Sound}

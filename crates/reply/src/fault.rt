@@ -40,7 +40,10 @@ impl fmt::Display for ReadFault {
         match self {
             ReadFault::NothingWhole => f.write_str("no whole frame is heard"),
             ReadFault::BadPair(place) => {
-                write!(f, "the pair at place {place} is cut or its key is ill-formed")
+                write!(
+                    f,
+                    "the pair at place {place} is cut or its key is ill-formed"
+                )
             }
         }
     }

@@ -24,9 +24,15 @@ const REPLY_VERSION: u8 = 1;
 #[derive(Clone, Copy, Debug)]
 pub enum Message<'a> {
     // the frame with this class and ID is granted
-    Ack { class: u8, id: u8 },
+    Ack {
+        class: u8,
+        id: u8,
+    },
     // it is refused
-    Nak { class: u8, id: u8 },
+    Nak {
+        class: u8,
+        id: u8,
+    },
     // the reply to a get
     Values {
         layer: u8,

@@ -18,8 +18,7 @@ returns c =
     let good : well_formed c.in_ok-key.key ≡ true = search rules in
     let size : Some c.in_ok-size.size ≡ size_of c.in_ok-key.key = search rules in
     let long : 4 ≤ length c.args.bytes.now = grind (arith, nat_tests) in
-    let fit = fits c.args.bytes.now _ key good _ size _ refl _ c.in_ok-value.ensures.value long in
-    (
+    let fit = fits c.args.bytes.now _ key good _ size _ refl _ c.in_ok-value.ensures.value long in (
       read c.args.bytes.now _ key good _ size _ refl _ c.in_ok-value.ensures.value,
       size_is c.args.bytes.now _ key good _ size _ refl c.in_ok-value.value _ c.width.ensures,
       omega (arith, fit),

@@ -1,7 +1,5 @@
-use Rattle.std.proofs.Common.{◌≡◌, ◌+◌, ◌≤◌, length, Some, None, Ok, Err, Result, sym, refl, ap, ◌∙◌, rules, arith}
+use Rattle.std.proofs.Common.{◌≡◌, Some, None, Err, Result, sym, ap, ◌∙◌, arith}
 use Rattle.std.proofs.lemmas.Result.{err_from_is_err_and}
-use Rattle.frame.specs.Frames.{size_of}
-use Rattle.frame.specs.Meaning.{message_of}
 use Rattle.reply.specs.declared.fault.ReadFault.{ReadFault}
 use Rattle.reply.specs.declared.fault.ReadFault.TheVariants.{NothingWhole}
 use Rattle.reply.specs.Messages.{Saying, reading_at, read_message}
@@ -32,7 +30,7 @@ returns-in_err-message c =
     let said_is = ap said_of (sym (c.in_err-message.was {u = tt})) ∙ c.message_in.ensures in
     let value : read_of c.from_residual-in_err-message.result ≡ read_message c.args.bytes.now =
     rw (p.1, p.2) (ap (λ (r : Result Saying ReadFault). reading_at c.find-found.result.noise r c.find-found.result.rest.now) said_is
-      ∙ sym (heard_is c.args.bytes.now c.find-found.result c.find-found.ensures (Some c.in_ok-frame.frame) some)) in
+    ∙ sym (heard_is c.args.bytes.now c.find-found.result c.find-found.ensures (Some c.in_ok-frame.frame) some)) in
     record { value = value; back = reads_back c.args.bytes.now _ value }
 
 pub returns : goal.returns
@@ -40,5 +38,5 @@ returns c =
     let some : c.find-found.result.frame ≡ Some c.in_ok-frame.frame = grind arith in
     let said_is = ap said_of (sym (c.in_ok-message.was {u = tt})) ∙ c.message_in.ensures in
     let value = ap (λ (r : Result Saying ReadFault). reading_at c.find-found.result.noise r c.find-found.result.rest.now) said_is
-      ∙ sym (heard_is c.args.bytes.now c.find-found.result c.find-found.ensures (Some c.in_ok-frame.frame) some) in
+    ∙ sym (heard_is c.args.bytes.now c.find-found.result c.find-found.ensures (Some c.in_ok-frame.frame) some) in
     record { value = value; back = reads_back c.args.bytes.now _ value }

@@ -1,6 +1,5 @@
-use Rattle.std.proofs.Common.{◌≡◌, ℕ, ◌+◌, ◌<◌, ◌≤◌, List, length, drop, None, Some, sym, ap, ◌∙◌, rules, arith}
+use Rattle.std.proofs.Common.{length, ap, rules}
 use Rattle.std.proofs.lemmas.List.{take_rest}
-use Rattle.reply.specs.Pairs.{first_pair, pair_size, pairs_read}
 use Rattle.reply.specs.Meaning.{pairs_left}
 use Rattle.reply.proofs.Walks.{none_left, next_whole, next_less}
 use Rattle.reply.proofs.pairs.PairsIterator.next.Goals as goal
