@@ -51,13 +51,8 @@ fn read_command(heap: Global, name: &str, words: &[&str]) -> Result<Command, Lin
         "words" => Err(LineFault::NotBuilt("words")),
         "inspect" => Err(LineFault::NotBuilt("inspect")),
         "read" => Ok(Command::Read(bytes_in(heap, words)?)),
-        "hostset"
-        | "hostdel"
-        | "hostget"
-        | "hostbegin"
-        | "hostadd"
-        | "hostapply"
-        | "hostabandon" => Err(LineFault::NotBuilt("the host end")),
+        "hostset" | "hostdel" | "hostget" | "hostbegin" | "hostadd" | "hostapply" | "hostabandon" =>
+            Err(LineFault::NotBuilt("the host end")),
         _ => read_part(name, words).map(Command::SetUp),
     }
 }
