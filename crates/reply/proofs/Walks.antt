@@ -124,6 +124,16 @@ module _ (bs rest : List ℕ) (s : Setting) (n : ℕ) (e : first_pair bs ≡ Som
   pub next_less : settings_in bs ≡ s ∷ settings_in rest
   next_less = ap settings_of step_is ∙ left_less (pairs_read n rest) (pairs_read 0 rest) (sym (ap is_ok step_is) ∙ whole) (pairs_moved n 0 0 rest)
 
+-- the same, of the bytes behind as the code takes them
+
+pub behind_whole : (bs : List ℕ) (s : Setting) (n : ℕ) → first_pair bs ≡ Some s → n ≡ pair_size s → n ≤ length bs → is_ok (pairs_read 0 bs) ≡ true
+    → is_ok (pairs_read 0 (take (length bs - n) (drop n bs))) ≡ true
+behind_whole bs s n e size fits whole = next_whole bs _ s n e size fits (take_rest bs n) whole
+
+pub behind_less : (bs : List ℕ) (s : Setting) (n : ℕ) → first_pair bs ≡ Some s → n ≡ pair_size s → n ≤ length bs → is_ok (pairs_read 0 bs) ≡ true
+    → settings_in bs ≡ s ∷ settings_in (take (length bs - n) (drop n bs))
+behind_less bs s n e size fits whole = next_less bs _ s n e size fits (take_rest bs n) whole
+
 -- The walk that has come to a place of the bytes: at a bad pair, one pair further, and at the end
 
 module _ (place at : ℕ) (bs : List ℕ) (all : Option ReadFault) (inv : fault_of (pairs_read (place + at) (drop at bs)) ≡ all) where

@@ -43,6 +43,7 @@ impl<'a> Iterator for Pairs<'a> {
     ghost remaining = { item_count pairs_left };
 
     // The next pair; none behind the last.
+    #[tactic(auto, using(crate::proofs::Walks::none_left, crate::proofs::Walks::behind_whole, crate::proofs::Walks::behind_less), unfolding(crate::specs::Meaning::pairs_left))]
     fn next(&mut self) -> Option<Setting> {
         let front = first_pair(self.bytes)?;
         self.bytes = &self.bytes[front.size..];
