@@ -96,7 +96,7 @@ all_of_none p q bs e = go (pairs_read p bs) (pairs_read q bs) e (pairs_moved p q
 -- The iterator: none is left where none is at the front; else one less
 
 pub none_left : (bs : List ℕ) → first_pair bs ≡ None → settings_in bs ≡ []
-unfolding pairs_from
+unfolding pairs_from settings_in
 none_left [] e = refl
 none_left (x ∷ xs) e = ap settings_of (pairs_bad 0 (x ∷ xs) e (omega arith))
 
@@ -122,17 +122,8 @@ module _ (bs rest : List ℕ) (s : Setting) (n : ℕ) (e : first_pair bs ≡ Som
   next_whole = left_whole (pairs_read n rest) (pairs_read 0 rest) (sym (ap is_ok step_is) ∙ whole) (pairs_moved n 0 0 rest)
 
   pub next_less : settings_in bs ≡ s ∷ settings_in rest
+  unfolding settings_in
   next_less = ap settings_of step_is ∙ left_less (pairs_read n rest) (pairs_read 0 rest) (sym (ap is_ok step_is) ∙ whole) (pairs_moved n 0 0 rest)
-
--- the same, of the bytes behind as the code takes them
-
-pub behind_whole : (bs : List ℕ) (s : Setting) (n : ℕ) → first_pair bs ≡ Some s → n ≡ pair_size s → n ≤ length bs → is_ok (pairs_read 0 bs) ≡ true
-    → is_ok (pairs_read 0 (take (length bs - n) (drop n bs))) ≡ true
-behind_whole bs s n e size fits whole = next_whole bs _ s n e size fits (take_rest bs n) whole
-
-pub behind_less : (bs : List ℕ) (s : Setting) (n : ℕ) → first_pair bs ≡ Some s → n ≡ pair_size s → n ≤ length bs → is_ok (pairs_read 0 bs) ≡ true
-    → settings_in bs ≡ s ∷ settings_in (take (length bs - n) (drop n bs))
-behind_less bs s n e size fits whole = next_less bs _ s n e size fits (take_rest bs n) whole
 
 -- The walk that has come to a place of the bytes: at a bad pair, one pair further, and at the end
 

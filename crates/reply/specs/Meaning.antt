@@ -20,7 +20,7 @@ IsFront bs None = first_pair bs ≡ None
 IsFront bs (Some f) = (first_pair bs ≡ Some f.pair) × (f.size ≡ pair_size f.pair) × (f.size ≤ length bs)
 
 -- the pairs that are still to come
-unfoldable pub pairs_left : Pairs → List Setting
+abbrev pub pairs_left : Pairs → List Setting
 pairs_left p = settings_in p.bytes.now
 
 abbrev pub pairs_of : Result Pairs ReadFault → Result (List Setting) ReadFault

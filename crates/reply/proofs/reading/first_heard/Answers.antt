@@ -9,8 +9,7 @@ returns-in_err-frame c =
 
 pub returns : goal.returns
 returns c =
-    let some : c.find-found.result.frame ≡ Some c.in_ok-frame.frame = grind arith in
-    (
+    let some : c.find-found.result.frame ≡ Some c.in_ok-frame.frame = grind arith in (
       frame_fits c.args.bytes.now c.find-found.result c.find-found.ensures _ some,
       heard_is c.args.bytes.now c.find-found.result c.find-found.ensures (Some c.in_ok-frame.frame) some,
     )
