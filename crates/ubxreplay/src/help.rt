@@ -24,7 +24,9 @@ and calls:
     answer SIZE                       with a buffer of SIZE bytes
     look LAYER KEY                    0 RAM, 1 BBR, 2 Flash, 7 the defaults
     restart kept|lost                 what the battery did to BBR
-    new                               begins another receiver, anywhere
+anywhere:
+    new                               begins another receiver
+    read [BYTE...]                    tells what a receiver sent
 
 example:
     printf '%s\\n' 'entry 20510001 0 65 8 119' make 'look 0 20510001' | ubxreplay
