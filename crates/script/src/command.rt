@@ -76,4 +76,6 @@ pub enum Command {
     Inspect(Vec<u32>),
     // shows the words of the journal at a place; it may stand anywhere
     Words(Place),
+    // what a receiver sent is to be read
+    Read(Vec<u8>),
 }

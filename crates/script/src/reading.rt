@@ -58,14 +58,9 @@ fn read_command(heap: Global, name: &str, words: &[&str]) -> Result<Command, Lin
         "restart" => restarting(words).map(Command::Call),
         "inspect" => Ok(Command::Inspect(buffer_in(heap, words, INSPECT)?)),
         "words" => showing(words).map(Command::Words),
-        "read"
-        | "hostset"
-        | "hostdel"
-        | "hostget"
-        | "hostbegin"
-        | "hostadd"
-        | "hostapply"
-        | "hostabandon" => Err(LineFault::NotBuilt("the host end")),
+        "read" => Ok(Command::Read(bytes_in(heap, words)?)),
+        "hostset" | "hostdel" | "hostget" | "hostbegin" | "hostadd" | "hostapply" | "hostabandon" =>
+            Err(LineFault::NotBuilt("the host end")),
         _ => read_part(heap, name, words).map(Command::SetUp),
     }
 }

@@ -59,6 +59,12 @@ fn wrong_numbers(rt: HostRuntime) -> Result<(), Fail> {
         "look 0 0x1",
         "a key is a hexadecimal number up to ffffffff",
     )?;
+    says(
+        &rt,
+        heap,
+        "read b5 162",
+        "a byte is a hexadecimal number up to ff",
+    )?;
     says(&rt, heap, "look RAM 20510001", "expected a decimal number")?;
     says(
         &rt,
@@ -86,6 +92,5 @@ fn what_is_not_built(rt: HostRuntime) -> Result<(), Fail> {
     says(&rt, heap, "words bbr", "words is not built yet")?;
     says(&rt, heap, "inspect 640", "inspect is not built yet")?;
     says(&rt, heap, "hostset 100 1", "the host end is not built yet")?;
-    says(&rt, heap, "read b5", "the host end is not built yet")?;
     says(&rt, heap, "hosting", "there is no such command")
 }

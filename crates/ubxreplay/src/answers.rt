@@ -1,25 +1,10 @@
 // The lines that answer the commands.
 use catalogue::CatalogueFault;
-use journal::{BLANK, JournalFault};
+use journal::BLANK;
 use layer::StoreFault;
 use reference::{Call, CallFault, PartsFault, Refusal, Telling, Verdict};
 use replay::{Answering, Event};
-use script::LineFault;
 use std::fmt;
-
-// A line that the format does not allow, by its number.
-#[derive(Clone, Copy)]
-pub struct ErrorLine {
-    pub number: usize,
-    pub fault: LineFault,
-}
-
-impl fmt::Display for ErrorLine {
-    fn fmt<W: fmt::Write>(&self, f: &mut fmt::Formatter<W>) -> fmt::Result {
-        let ErrorLine { number, fault } = *self;
-        write!(f, "error line {number}: {fault}")
-    }
-}
 
 // What a store answers to a write that the script names.
 #[derive(Clone, Copy)]
@@ -36,24 +21,6 @@ impl fmt::Display for WriteLine {
             Err(fault) => {
                 let number = fault.number();
                 write!(f, "{name} {number}")
-            }
-        }
-    }
-}
-
-// What a buffer of words holds, or what is wrong with it.
-#[derive(Clone, Copy)]
-pub struct InspectLine(pub Result<usize, JournalFault>);
-
-impl fmt::Display for InspectLine {
-    fn fmt<W: fmt::Write>(&self, f: &mut fmt::Formatter<W>) -> fmt::Result {
-        let InspectLine(inspected) = *self;
-        match inspected {
-            Ok(count) => write!(f, "inspect ok {count}"),
-            Err(fault) => {
-                let number = fault.number();
-                let word = fault.word();
-                write!(f, "inspect {number} {word}")
             }
         }
     }

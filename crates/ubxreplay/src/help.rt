@@ -29,6 +29,7 @@ anywhere:
     new                               begins another receiver
     inspect COUNT [WORD...]           what a buffer of words holds, or its fault
     words bbr|flash                   a journal's words, up to the last not blank
+    read [BYTE...]                    tells what a receiver sent
 
 example:
     printf '%s\\n' 'entry 20510001 0 65 8 119' make 'look 0 20510001' | ubxreplay

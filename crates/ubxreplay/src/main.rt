@@ -5,6 +5,8 @@
 
 mod answers;
 mod help;
+mod reading;
+mod said;
 mod seen;
 mod session;
 

@@ -1,5 +1,6 @@
 // What a script has come to: the set-up of a receiver and, behind its make, the lines that are answered when all of them are read.
-use crate::answers::{ErrorLine, EventLine, InspectLine, MakeLine, WordsLine, WriteLine};
+use crate::answers::{EventLine, MakeLine, WordsLine, WriteLine};
+use crate::said::{ErrorLine, Said};
 use crate::seen::{SeenWords, Wanted};
 use anyhow::Context;
 use configuration::check;
@@ -20,8 +21,8 @@ enum Step {
     Call(OwnCall),
     // the words of a journal as they stand then
     Words(Place),
-    Inspected(InspectLine),
-    Wrong(ErrorLine),
+    // what hangs on no call
+    Said(Said),
 }
 
 #[derive(Drop)]
@@ -65,26 +66,25 @@ impl<'a, W: Write> Session<'a, W> {
             (Command::Call(call), Some(steps)) => Ok(steps.push(Step::Call(call))?),
             (Command::Words(place), Some(steps)) => Ok(steps.push(Step::Words(place))?),
             (Command::Words(place), None) => self.tell_words(place),
-            (Command::Inspect(words), _) => self.tell_inspected(words.as_slice()),
+            (Command::Inspect(words), _) => {
+                let held = inspect(words.as_slice()).map(|held| held.count());
+                self.say(Said::Inspected(held))
+            }
+            (Command::Read(bytes), _) => self.say(Said::Read(bytes)),
             (Command::Call(_), None) => self.refuse(number, LineFault::CallBeforeMake),
             (_, Some(_)) => self.refuse(number, LineFault::SetUpAfterMake),
         }
     }
 
     fn refuse(&mut self, number: usize, fault: LineFault) -> anyhow::Result<()> {
-        let line = ErrorLine { number, fault };
-        match &mut self.steps {
-            Some(steps) => steps.push(Step::Wrong(line))?,
-            None => self.out.writeln(line)?,
-        }
-        Ok(())
+        self.say(Said::Wrong(ErrorLine { number, fault }))
     }
 
-    fn tell_inspected(&mut self, words: &[u32]) -> anyhow::Result<()> {
-        let line = InspectLine(inspect(words).map(|held| held.count()));
+    // Says what hangs on no call: at once before make, and in its place among the calls behind it.
+    fn say(&mut self, said: Said) -> anyhow::Result<()> {
         match &mut self.steps {
-            Some(steps) => steps.push(Step::Inspected(line))?,
-            None => self.out.writeln(line)?,
+            Some(steps) => steps.push(Step::Said(said))?,
+            None => self.out.writeln(said)?,
         }
         Ok(())
     }
@@ -216,8 +216,7 @@ fn print_steps<W: Write>(
     let mut words = seen.iter();
     for step in steps {
         match step {
-            Step::Wrong(line) => out.writeln(*line)?,
-            Step::Inspected(line) => out.writeln(*line)?,
+            Step::Said(said) => out.writeln(said)?,
             Step::Call(_) => {
                 let event = events.next().context("the log ends before the calls do")?;
                 out.writeln(EventLine(event))?;
