@@ -1,7 +1,7 @@
 -- A payload is built entry by entry: one entry further, and the end.
-use Rattle.std.proofs.Common.{◌≡◌, ℕ, ◌+◌, ◌/◌, ◌%◌, ◌<◌, ◌≤◌, List, [], ◌∷◌, ◌++◌, length, get_or, take, drop, Some, None, Ok, Err, Option, sym, refl, ap, ◌∙◌, ap₂, append_assoc, append-nil, arith}
+use Rattle.std.proofs.Common.{◌≡◌, ℕ, ◌+◌, ◌<◌, ◌≤◌, List, ◌++◌, length, get_or, take, drop, Some, None, Ok, Err, Option, sym, refl, ap, ◌∙◌, ap₂, append_assoc, append-nil}
 use Rattle.std.proofs.lemmas.List.{drop_more, drop_all}
-use Rattle.std.specs.Int.{w16, w32, w64, to_le_bytes}
+use Rattle.std.specs.Int.{w32, w64, to_le_bytes}
 use Rattle.std.specs.Option.{option_or}
 use Rattle.item.specs.declared.key.Size.{Size}
 use Rattle.item.specs.Keys.{size_of, width_of}
@@ -74,12 +74,3 @@ numbers_past ns i d new old lt e =
 pub numbers_end : (ns : List ℕ) (i : ℕ) (bs : List ℕ) → length ns ≤ i → bs ++ numbers_bytes (drop i ns) ≡ bs
 unfolding numbers_bytes
 numbers_end ns i bs le = ap (λ (xs : List ℕ). bs ++ numbers_bytes xs) (drop_all i ns le) ∙ append-nil bs
-
--- a position's two bytes
-pub position_stands : (version layer position : ℕ) (size : List ℕ) → size ≡ to_le_bytes w16 position
-    → version ∷ layer ∷ get_or size 0 0 ∷ get_or size 1 0 ∷ [] ≡ version ∷ layer ∷ bytes_of 2 position
-unfolding bytes_of
-position_stands version layer position size e =
-    let low : get_or size 0 0 ≡ position % 256 = ap (λ (xs : List ℕ). get_or xs 0 0) e ∙ omega arith in
-    let high : get_or size 1 0 ≡ position / 256 % 256 = ap (λ (xs : List ℕ). get_or xs 1 0) e ∙ omega arith in
-    ap₂ (λ (a b : ℕ). version ∷ layer ∷ a ∷ b ∷ []) low high

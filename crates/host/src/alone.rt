@@ -7,11 +7,9 @@ ghost use Rattle.host.specs.Refusals.{set_fault, delete_fault, get_fault};
 ghost use Rattle.host.specs.Requests.{set_request, delete_request, get_request, written};
 
 use crate::fault::HostFault;
-use crate::payload::get_payload;
-use crate::sending::{send, send_delete, send_set};
+use crate::sending::{send_delete, send_get, send_set};
 use crate::stage::Stage;
 use layer::Setting;
-use request::VALGET;
 
 // Writes a VALSET at the start of the buffer; answers how many bytes it has. The layers are bits: RAM 1, BBR 2, Flash 4. A refusal leaves the buffer
 // as it was.
@@ -43,6 +41,5 @@ pub fn write_get(
     ensures out { out.new ≡ (if is_ok result then in_front (frame_bytes (get_request layer position numbers.now)) out.old else out.old) }
     ensures heard { IfOk result (λ n. GetHeard layer position numbers.now (take n out.new)) }
 {
-    let payload = get_payload(layer, position, numbers)?;
-    send(out, VALGET, payload.as_slice())
+    send_get(out, layer, position, numbers)
 }

@@ -1,5 +1,5 @@
 // The payloads of the requests: a head, and behind it entry by entry, each checked before it is added.
-ghost use Rattle.std.specs.Prelude.{◌≡◌, ◌+◌, ◌≤◌, ◌++◌, length, OnOk};
+ghost use Rattle.std.specs.Prelude.{◌≡◌, ◌+◌, ◌≤◌, ◌∷◌, ◌++◌, length, OnOk};
 ghost use Rattle.arrayvec.specs.ArrayVec.{array_vec_len};
 ghost use Rattle.item.specs.Values.{bytes_of};
 ghost use Rattle.reference.specs.Receiver.{pair_bytes, pairs_bytes};
@@ -147,6 +147,16 @@ fn is_layer(layer: u8) -> bool
     matches!(layer, 0..=2 | 7)
 }
 
+// The head of a get.
+#[tactic(auto, unfolding(item::specs::Values::bytes_of))]
+fn get_head(layer: u8, position: u16) -> [u8; HEAD]
+    ensures value { result ≡ 0 ∷ layer ∷ bytes_of 2 position }
+    ensures len { length result ≡ 4 }
+{
+    let [low, high] = position.to_le_bytes();
+    [GET_VERSION, layer, low, high]
+}
+
 // The payload of a get.
 pub(crate) fn get_payload(
     layer: u8,
@@ -161,8 +171,7 @@ pub(crate) fn get_payload(
     if numbers.len() > MAX_ENTRIES {
         return Err(HostFault::TooManyEntries);
     }
-    let [low, high] = position.to_le_bytes();
-    let mut bytes = begun([GET_VERSION, layer, low, high]);
+    let mut bytes = begun(get_head(layer, position));
     add_numbers(&mut bytes, numbers)?;
     Ok(bytes)
 }

@@ -58,3 +58,18 @@ pub(crate) fn send_delete(
     let payload = delete_payload(stage, layers, numbers)?;
     send(out, VALDEL, payload.as_slice())
 }
+
+// Writes a get.
+pub(crate) fn send_get(
+    out: &mut [u8],
+    layer: u8,
+    position: u16,
+    numbers: &[u32],
+) -> Result<usize, HostFault>
+    ensures answer { result ≡ written (get_fault layer numbers.now) (get_request layer position numbers.now) (length out.old) }
+    ensures out { out.new ≡ (if is_ok result then in_front (frame_bytes (get_request layer position numbers.now)) out.old else out.old) }
+    ensures heard { IfOk result (λ n. GetHeard layer position numbers.now (take n out.new)) }
+{
+    let payload = get_payload(layer, position, numbers)?;
+    send(out, VALGET, payload.as_slice())
+}

@@ -1,6 +1,6 @@
 use Rattle.std.proofs.Common.{ℕ, ◌^◌, ◌<◌, get_or, Ok, ap, ◌∙◌, rules, arith}
 use Rattle.host.proofs.Heard.{get_heard}
-use Rattle.host.proofs.alone.write_get.Goals as goal
+use Rattle.host.proofs.sending.send_get.Goals as goal
 
 pub returns-clause-heard : goal.returns-clause-heard
 returns-clause-heard c =
