@@ -29,7 +29,10 @@ fn number(answer: Result<usize, HostFault>) -> u8 {
 // Each set is refused by its number and writes nothing.
 fn refuses(rt: &impl Abort, layers: u8, settings: &[Setting], number_wanted: u8) {
     let mut out = [0xee; 17];
-    assert_eq!(rt; number(write_set(&mut out, layers, settings)), number_wanted);
+    assert_eq!(rt;
+        number(write_set(&mut out, layers, settings)),
+        number_wanted
+    );
     assert!(rt; out.as_slice() == [0xee; 17].as_slice());
 }
 
@@ -63,7 +66,10 @@ fn deletes_and_gets_are_refused(rt: HostRuntime) {
     assert_eq!(rt; number(write_get(&mut out, 3, 0, &[0x2051_0001])), 31);
     assert_eq!(rt; number(write_get(&mut out, 7, 0, &[0x0051_fffe])), 34);
     assert_eq!(rt; number(write_get(&mut out, 7, 0, &[1, 2])), 34);
-    assert_eq!(rt; number(write_get(&mut out[0..15], 7, 0, &[0x2051_0001])), 36);
+    assert_eq!(rt;
+        number(write_get(&mut out[0..15], 7, 0, &[0x2051_0001])),
+        36
+    );
     assert!(rt; out.as_slice() == [0; 16].as_slice());
 }
 
@@ -75,10 +81,12 @@ fn a_refused_beginning_begins_nothing(rt: HostRuntime) -> Result<(), Fail> {
             assert_eq!(rt; fault.number(), 36);
             Ok(())
         }
-        Ok(Begun {
-            length: _,
-            transaction,
-        }) => {
+        Ok(
+            Begun {
+                length: _,
+                transaction,
+            },
+        ) => {
             let _end = transaction.abandon();
             Err(Fail::new("a frame of 17 bytes was written into 16"))
         }

@@ -71,7 +71,10 @@ fn a_set_transaction_is_abandoned(rt: HostRuntime) -> Result<(), Fail> {
         length: _,
         mut transaction,
     } = SetTransaction::begin(&mut out, 1, &[FIRST])?;
-    assert_eq!(rt; transaction.add(&mut out, &[]), Err(HostFault::NothingToAdd));
+    assert_eq!(rt;
+        transaction.add(&mut out, &[]),
+        Err(HostFault::NothingToAdd)
+    );
     assert!(rt; out.as_slice() == BEGIN.as_slice());
     assert!(rt; transaction.abandon().as_slice() == ABANDON.as_slice());
     Ok(())
