@@ -71,4 +71,6 @@ pub enum Command {
     SetUp(Part),
     Make,
     Call(OwnCall),
+    // what a receiver sent is to be read
+    Read(Vec<u8>),
 }

@@ -50,8 +50,8 @@ fn read_command(heap: Global, name: &str, words: &[&str]) -> Result<Command, Lin
         "restart" => restarting(words).map(Command::Call),
         "words" => Err(LineFault::NotBuilt("words")),
         "inspect" => Err(LineFault::NotBuilt("inspect")),
-        "read"
-        | "hostset"
+        "read" => Ok(Command::Read(bytes_in(heap, words)?)),
+        "hostset"
         | "hostdel"
         | "hostget"
         | "hostbegin"

@@ -5,6 +5,7 @@
 
 mod answers;
 mod help;
+mod reading;
 mod session;
 
 use anyhow::anyhow;

@@ -1,5 +1,6 @@
 // What a script has come to: the set-up of a receiver and, behind its make, the lines that are answered when all of them are read.
 use crate::answers::{ErrorLine, EventLine, MakeLine, WriteLine};
+use crate::reading::ReadLine;
 use anyhow::Context;
 use configuration::check;
 use layer::StoreFault;
@@ -12,8 +13,14 @@ use std::alloc::{AllocError, Global};
 use std::io::Write;
 use std::{io, mem};
 
-// A line behind make that is answered: a call, or what is wrong with the line.
-type Step = Result<OwnCall, ErrorLine>;
+// A line behind make that is answered.
+#[derive(Drop)]
+enum Step {
+    Call(OwnCall),
+    Read(Vec<u8>),
+    // the format does not allow the line
+    Refused(ErrorLine),
+}
 
 #[derive(Drop)]
 pub struct Session<'a, W> {
@@ -53,7 +60,9 @@ impl<'a, W: Write> Session<'a, W> {
             }
             (Command::SetUp(part), None) => self.set_up(part),
             (Command::Make, None) => self.make(),
-            (Command::Call(call), Some(steps)) => Ok(steps.push(Ok(call))?),
+            (Command::Call(call), Some(steps)) => Ok(steps.push(Step::Call(call))?),
+            (Command::Read(bytes), Some(steps)) => Ok(steps.push(Step::Read(bytes))?),
+            (Command::Read(bytes), None) => Ok(self.out.writeln(ReadLine(bytes.as_slice()))?),
             (Command::Call(_), None) => self.refuse(number, LineFault::CallBeforeMake),
             (_, Some(_)) => self.refuse(number, LineFault::SetUpAfterMake),
         }
@@ -62,7 +71,7 @@ impl<'a, W: Write> Session<'a, W> {
     fn refuse(&mut self, number: usize, fault: LineFault) -> anyhow::Result<()> {
         let line = ErrorLine { number, fault };
         match &mut self.steps {
-            Some(steps) => steps.push(Err(line))?,
+            Some(steps) => steps.push(Step::Refused(line))?,
             None => self.out.writeln(line)?,
         }
         Ok(())
@@ -147,8 +156,10 @@ fn answer_steps<W: Write>(
 fn calls_of<'a>(heap: Global, steps: &'a [Step]) -> Result<Vec<Call<'a>>, AllocError> {
     steps
         .iter()
-        .filter_map(|step| step.as_ref().ok())
-        .map(Call::from)
+        .filter_map(|step| match step {
+            Step::Call(call) => Some(Call::from(call)),
+            _ => None,
+        })
         .collect(heap)
 }
 
@@ -157,8 +168,9 @@ fn print_steps<W: Write>(out: &mut W, steps: &[Step], log: &[Event<'_>]) -> anyh
     let mut events = log.iter();
     for step in steps {
         match step {
-            Err(line) => out.writeln(*line)?,
-            Ok(_) => {
+            Step::Refused(line) => out.writeln(*line)?,
+            Step::Read(bytes) => out.writeln(ReadLine(bytes.as_slice()))?,
+            Step::Call(_) => {
                 let event = events.next().context("the log ends before the calls do")?;
                 out.writeln(EventLine(event))?;
             }

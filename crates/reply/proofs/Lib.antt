@@ -1,0 +1,5 @@
+pub mod Back
+pub mod Fronts
+pub mod Hearing
+pub mod Sayings
+pub mod Walks

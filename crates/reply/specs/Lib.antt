@@ -1,0 +1,5 @@
+pub mod Answers
+pub mod Back
+pub mod Meaning
+pub mod Messages
+pub mod Pairs
