@@ -3,6 +3,7 @@ ghost use Rattle.std.specs.Prelude.{◌≡◌};
 ghost use Rattle.reference.specs.Events.{asking_of};
 ghost use Rattle.script.specs.Calls.{own_asking};
 
+use crate::host::HostCommand;
 use catalogue::Entry;
 use reference::{Battery, Call};
 use rule::Need;
@@ -73,4 +74,5 @@ pub enum Command {
     Call(OwnCall),
     // what a receiver sent is to be read
     Read(Vec<u8>),
+    Host(HostCommand),
 }

@@ -1,5 +1,6 @@
 // What a script has come to: the set-up of a receiver and, behind its make, the lines that are answered when all of them are read.
 use crate::answers::{ErrorLine, EventLine, MakeLine, WriteLine};
+use crate::host::{Host, HostLine};
 use crate::reading::ReadLine;
 use anyhow::Context;
 use configuration::check;
@@ -8,7 +9,7 @@ use receiver::Parts;
 use reference::Call;
 use replay::{Event, replay};
 use rule::{Both, Need, Needs, Ranges};
-use script::{Command, LineFault, OwnCall, Part, Setup, read_line};
+use script::{Command, HostCommand, LineFault, OwnCall, Part, Setup, read_line};
 use std::alloc::{AllocError, Global};
 use std::io::Write;
 use std::{io, mem};
@@ -18,6 +19,7 @@ use std::{io, mem};
 enum Step {
     Call(OwnCall),
     Read(Vec<u8>),
+    Host(HostLine),
     // the format does not allow the line
     Refused(ErrorLine),
 }
@@ -26,16 +28,19 @@ enum Step {
 pub struct Session<'a, W> {
     heap: Global,
     out: &'a mut W,
+    // lent, since a host may have a transaction that may not be let go
+    host: &'a mut Host,
     setup: Setup,
     // none before make
     steps: Option<Vec<Step>>,
 }
 
 impl<'a, W: Write> Session<'a, W> {
-    pub fn new(heap: Global, out: &'a mut W) -> Session<'a, W> {
+    pub fn new(heap: Global, out: &'a mut W, host: &'a mut Host) -> Session<'a, W> {
         Session {
             heap,
             out,
+            host,
             setup: Setup::new(heap),
             steps: None,
         }
@@ -55,6 +60,7 @@ impl<'a, W: Write> Session<'a, W> {
         match (command, &mut self.steps) {
             (Command::New, _) => {
                 self.finish()?;
+                self.host.forget();
                 self.setup = Setup::new(self.heap);
                 Ok(())
             }
@@ -63,8 +69,21 @@ impl<'a, W: Write> Session<'a, W> {
             (Command::Call(call), Some(steps)) => Ok(steps.push(Step::Call(call))?),
             (Command::Read(bytes), Some(steps)) => Ok(steps.push(Step::Read(bytes))?),
             (Command::Read(bytes), None) => Ok(self.out.writeln(ReadLine(bytes.as_slice()))?),
+            (Command::Host(command), _) => self.obey_host(number, command),
             (Command::Call(_), None) => self.refuse(number, LineFault::CallBeforeMake),
             (_, Some(_)) => self.refuse(number, LineFault::SetUpAfterMake),
+        }
+    }
+
+    // A host does what it is told at once; behind make the answer waits for those of the calls.
+    fn obey_host(&mut self, number: usize, command: HostCommand) -> anyhow::Result<()> {
+        match self.host.obey(self.heap, command) {
+            Ok(line) => match &mut self.steps {
+                Some(steps) => Ok(steps.push(Step::Host(line))?),
+                None => Ok(self.out.writeln(line)?),
+            },
+            Err(LineFault::NoMemory) => Err(LineFault::NoMemory.into()),
+            Err(fault) => self.refuse(number, fault),
         }
     }
 
@@ -170,6 +189,7 @@ fn print_steps<W: Write>(out: &mut W, steps: &[Step], log: &[Event<'_>]) -> anyh
         match step {
             Step::Refused(line) => out.writeln(*line)?,
             Step::Read(bytes) => out.writeln(ReadLine(bytes.as_slice()))?,
+            Step::Host(line) => out.writeln(line)?,
             Step::Call(_) => {
                 let event = events.next().context("the log ends before the calls do")?;
                 out.writeln(EventLine(event))?;
