@@ -1,12 +1,12 @@
 -- What a frame says, by its parts.
-use Rattle.std.proofs.Common.{◌≡◌, ℕ, ◌+◌, ◌-◌, ◌*◌, ◌≤◌, ◌&&◌, eqb, leb, List, length, get_or, take, drop, Result, sym, ap, ◌∙◌, arith}
+use Rattle.std.proofs.Common.{Ok, ◌≡◌, ℕ, ◌+◌, ◌-◌, ◌*◌, ◌≤◌, ◌&&◌, eqb, leb, List, length, get_or, take, drop, Result, sym, ap, ◌∙◌, arith}
 use Rattle.std.proofs.lemmas.List.{take_rest}
 use Rattle.std.proofs.lemmas.Bool.{le-leb, eq-eqb, and_from, cond-true}
 use Rattle.frame.specs.Frames.{Message}
 use Rattle.layer.specs.declared.setting.Setting.{Setting}
 use Rattle.reply.specs.declared.fault.ReadFault.{ReadFault}
 use Rattle.reply.specs.Pairs.{pairs_read}
-use Rattle.reply.specs.Messages.{values_or_fault, values_in, values_said}
+use Rattle.reply.specs.Messages.{values, values_or_fault, values_in, values_said}
 
 pub values_are : (place : ℕ) (m : Message) → 4 ≤ length m.payload → get_or m.payload 0 0 ≡ 1 → values_said place m ≡ values_in place m.payload
 unfolding values_said
@@ -22,3 +22,7 @@ module _ (place : ℕ) (m : Message) (long : 4 ≤ length m.payload) (one : get_
       ap (λ (n : ℕ). values_or_fault (get_or m.payload 1 0) n r) same
       ∙ ap (values_or_fault (get_or m.payload 1 0) (get_or m.payload 2 0 + 256 * get_or m.payload 3 0)) (e ∙ ap (pairs_read (place + 4)) (take_rest m.payload 4))
       ∙ sym (values_are place m long one)
+
+  -- and by all of them, or the fault
+  pub values_ok : (position : ℕ) (ss : List Setting) → r ≡ Ok ss → position ≡ get_or m.payload 2 0 + get_or m.payload 3 0 * 256 → Ok (values (get_or m.payload 1 0) position ss) ≡ values_said place m
+  values_ok position ss is at = sym (ap (values_or_fault (get_or m.payload 1 0) position) is) ∙ values_by position at

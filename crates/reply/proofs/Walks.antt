@@ -96,7 +96,7 @@ all_of_none p q bs e = go (pairs_read p bs) (pairs_read q bs) e (pairs_moved p q
 -- The iterator: none is left where none is at the front; else one less
 
 pub none_left : (bs : List ℕ) → first_pair bs ≡ None → settings_in bs ≡ []
-unfolding pairs_from
+unfolding pairs_from settings_in
 none_left [] e = refl
 none_left (x ∷ xs) e = ap settings_of (pairs_bad 0 (x ∷ xs) e (omega arith))
 
@@ -122,6 +122,7 @@ module _ (bs rest : List ℕ) (s : Setting) (n : ℕ) (e : first_pair bs ≡ Som
   next_whole = left_whole (pairs_read n rest) (pairs_read 0 rest) (sym (ap is_ok step_is) ∙ whole) (pairs_moved n 0 0 rest)
 
   pub next_less : settings_in bs ≡ s ∷ settings_in rest
+  unfolding settings_in
   next_less = ap settings_of step_is ∙ left_less (pairs_read n rest) (pairs_read 0 rest) (sym (ap is_ok step_is) ∙ whole) (pairs_moved n 0 0 rest)
 
 -- The walk that has come to a place of the bytes: at a bad pair, one pair further, and at the end

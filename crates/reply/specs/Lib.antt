@@ -3,3 +3,4 @@ pub mod Back
 pub mod Meaning
 pub mod Messages
 pub mod Pairs
+pub mod Splits

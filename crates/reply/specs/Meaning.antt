@@ -1,15 +1,18 @@
 -- What the values of the code mean: the same without addresses.
-use Rattle.std.specs.Prelude.{◌≡◌, ℕ, ◌≤◌, List, length, Some, None, Ok, Err, Option, Result}
+use Rattle.std.specs.Prelude.{◌≡◌, ℕ, ◌+◌, ◌≤◌, List, length, Some, None, Ok, Err, Option, Result}
+use Rattle.frame.specs.Frames.{size_of}
 use Rattle.frame.specs.Meaning.{message_of}
 use Rattle.layer.specs.declared.setting.Setting.{Setting}
 use Rattle.reply.specs.declared.fault.ReadFault.{ReadFault}
+use Rattle.reply.specs.declared.fault.ReadFault.TheVariants.{NothingWhole}
 use Rattle.reply.specs.declared.pairs.Pairs.{Pairs}
 use Rattle.reply.specs.declared.pair.Front.{Front}
 use Rattle.reply.specs.declared.message.Message.{Message}
 use Rattle.reply.specs.declared.message.Message.TheVariants.{Ack, Nak, Values, Other}
 use Rattle.reply.specs.declared.reading.Reading.{Reading as Read}
+use Rattle.reply.specs.declared.reading.Heard.{Heard}
 use Rattle.reply.specs.Pairs.{first_pair, pair_size, settings_in}
-use Rattle.reply.specs.Messages.{Saying, ack, nak, values, other, Reading}
+use Rattle.reply.specs.Messages.{Saying, ack, nak, values, other, said, Reading, reading_at, read_message}
 
 -- the pair at the front, and how many bytes it has
 abbrev pub IsFront : List ℕ → Option Front → Type 0
@@ -17,7 +20,7 @@ IsFront bs None = first_pair bs ≡ None
 IsFront bs (Some f) = (first_pair bs ≡ Some f.pair) × (f.size ≡ pair_size f.pair) × (f.size ≤ length bs)
 
 -- the pairs that are still to come
-unfoldable pub pairs_left : Pairs → List Setting
+abbrev pub pairs_left : Pairs → List Setting
 pairs_left p = settings_in p.bytes.now
 
 abbrev pub pairs_of : Result Pairs ReadFault → Result (List Setting) ReadFault
@@ -40,3 +43,10 @@ reading_of r = record { place = r.place; saying = saying_of r.message; rest = r.
 abbrev pub read_of : Result Read ReadFault → Result Reading ReadFault
 read_of (Ok r) = Ok (reading_of r)
 read_of (Err f) = Err f
+
+-- The first heard frame lies within the input, and what it says is what is read; with none, nothing whole is heard.
+abbrev pub FirstHeard : List ℕ → Option Heard → Type 0
+FirstHeard bs None = read_message bs ≡ Err NothingWhole
+FirstHeard bs (Some h) =
+    (h.place + size_of (message_of h.frame) ≤ length bs)
+    × (read_message bs ≡ reading_at h.place (said h.place (message_of h.frame)) h.rest.now)

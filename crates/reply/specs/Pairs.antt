@@ -55,5 +55,5 @@ abbrev pub settings_of : Result (List Setting) ReadFault → List Setting
 settings_of (Ok ss) = ss
 settings_of (Err f) = []
 
-abbrev pub settings_in : List ℕ → List Setting
+unfoldable pub settings_in : List ℕ → List Setting
 settings_in bs = settings_of (pairs_read 0 bs)

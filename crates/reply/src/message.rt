@@ -59,7 +59,7 @@ fn verdict_in(frame: Frame<'_>) -> Message<'_>
 }
 
 // What a reply to a get says whose payload begins at a place of the input.
-#[tactic(auto, unfolding(crate::specs::Messages::values_said))]
+#[tactic(auto, unfolding(crate::specs::Messages::values_said), using(crate::proofs::Sayings::values_ok))]
 fn values_in(frame: Frame<'_>, place: usize) -> Result<Message<'_>, ReadFault>
     requires { place + length frame.payload.now < 2 ^ 64 }
     ensures { said_of result ≡ values_said place (message_of frame.entry) }

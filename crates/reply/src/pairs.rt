@@ -1,6 +1,7 @@
 // The pairs of a values message, one after the other.
 ghost use Rattle.std.specs.Prelude.{◌≡◌, ◌+◌, ◌<◌, ◌^◌, true, length, is_ok};
 ghost use Rattle.reply.specs.Pairs.{pairs_read};
+ghost use Rattle.reply.specs.Splits.{IsSplit};
 
 use crate::fault::ReadFault;
 use crate::pair::first_pair;
@@ -32,6 +33,15 @@ impl<'a> Pairs<'a> {
     }
 }
 
+// The first pair and the bytes behind it, of bytes that hold pairs alone.
+fn split_first(bytes: &[u8]) -> Option<(Setting, &[u8])>
+    requires { is_ok (pairs_read 0 bytes.now) ≡ true }
+    ensures { IsSplit bytes.now result }
+{
+    let front = first_pair(bytes)?;
+    Some((front.pair, &bytes[front.size..]))
+}
+
 impl<'a> Iterator for Pairs<'a> {
     ghost use Rattle.std.specs.Iterator.{YieldsFirst, item_count};
     ghost use Rattle.reply.specs.Meaning.{pairs_left};
@@ -44,8 +54,8 @@ impl<'a> Iterator for Pairs<'a> {
 
     // The next pair; none behind the last.
     fn next(&mut self) -> Option<Setting> {
-        let front = first_pair(self.bytes)?;
-        self.bytes = &self.bytes[front.size..];
-        Some(front.pair)
+        let (pair, rest) = split_first(self.bytes)?;
+        self.bytes = rest;
+        Some(pair)
     }
 }

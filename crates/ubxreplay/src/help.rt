@@ -25,6 +25,14 @@ and calls:
     look LAYER KEY                    0 RAM, 1 BBR, 2 Flash, 7 the defaults
     restart kept|lost                 what the battery did to BBR
     new                               begins another receiver, anywhere
+and a host that writes requests, anywhere:
+    hostset SIZE LAYERS [KEY VALUE..] into a buffer of SIZE bytes; prints
+                                      `host LEN BYTE...` or `host refused N`
+    hostdel SIZE LAYERS [KEY...]
+    hostget SIZE LAYER POSITION [KEY...]
+    hostbegin set|del SIZE LAYERS ... begins a transaction
+    hostadd SIZE ...                  adds to it
+    hostapply, hostabandon            end it
 
 example:
     printf '%s\\n' 'entry 20510001 0 65 8 119' make 'look 0 20510001' | ubxreplay

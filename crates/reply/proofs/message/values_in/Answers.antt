@@ -11,8 +11,3 @@ returns-in_err-pairs c =
     let m = message_of c.args.frame in
     rw (p.1, p.2)
     (values_by c.args.place m (omega arith) (omega arith) _ (ap pairs_of (sym (c.in_err-pairs.was {u = tt})) ∙ c.read.ensures) (get_or m.payload 2 0 + get_or m.payload 3 0 * 256) refl)
-
-pub returns : goal.returns
-returns c =
-    let m = message_of c.args.frame in
-    values_by c.args.place m (omega arith) (omega arith) _ (ap pairs_of (sym (c.in_ok-pairs.was {u = tt})) ∙ c.read.ensures) _ c.from_le_bytes.ensures

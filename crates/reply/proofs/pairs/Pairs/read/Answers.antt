@@ -1,4 +1,4 @@
-use Rattle.reply.specs.Meaning.{pairs_left}
+use Rattle.reply.specs.Pairs.{settings_in}
 use Rattle.reply.proofs.Walks.{walk_bad, walk_on, walk_end, err_of_fault, ok_of_none, all_of_none}
 use Rattle.reply.proofs.pairs.Pairs.read.Goals as goal
 
@@ -16,5 +16,5 @@ invariant_of-result c =
     record { whole = ok_of_none c.args.place 0 c.args.bytes.now (walk_end c.args.place c.loop-at.at c.args.bytes.now _ c.loop-at.invariant.1 c.loop-at-test.false) }
 
 pub returns : goal.returns
-unfolding pairs_left
+unfolding settings_in
 returns c = all_of_none c.args.place 0 c.args.bytes.now (walk_end c.args.place c.loop-at.at c.args.bytes.now _ c.loop-at.invariant.1 c.loop-at-test.false)
