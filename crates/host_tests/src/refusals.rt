@@ -92,3 +92,13 @@ fn a_refused_beginning_begins_nothing(rt: HostRuntime) -> Result<(), Fail> {
         }
     }
 }
+
+#[test]
+fn faults_are_told_in_words(rt: HostRuntime) -> Result<(), Fail> {
+    let heap = rt.alloc();
+    let short = HostFault::BufferTooShort.to_string(heap)?;
+    assert_eq!(rt; short.as_str(), "the buffer is shorter than the frame");
+    let many = HostFault::TooManyEntries.to_string(heap)?;
+    assert_eq!(rt; many.as_str(), "a request has at most 64 entries");
+    Ok(())
+}
