@@ -59,6 +59,12 @@ fn wrong_numbers(rt: HostRuntime) -> Result<(), Fail> {
         "look 0 0x1",
         "a key is a hexadecimal number up to ffffffff",
     )?;
+    says(
+        &rt,
+        heap,
+        "read b5 162",
+        "a byte is a hexadecimal number up to ff",
+    )?;
     says(&rt, heap, "look RAM 20510001", "expected a decimal number")?;
     says(
         &rt,

@@ -24,8 +24,9 @@ and calls:
     answer SIZE                       with a buffer of SIZE bytes
     look LAYER KEY                    0 RAM, 1 BBR, 2 Flash, 7 the defaults
     restart kept|lost                 what the battery did to BBR
-    new                               begins another receiver, anywhere
-and a host that writes requests, anywhere:
+anywhere:
+    new                               begins another receiver
+    read [BYTE...]                    tells what a receiver sent
     hostset SIZE LAYERS [KEY VALUE..] into a buffer of SIZE bytes; prints
                                       `host LEN BYTE...` or `host refused N`
     hostdel SIZE LAYERS [KEY...]
