@@ -32,6 +32,9 @@ count_read word = or_fault NoCount (capped (2 ^ 64 - 1) (number_in 10 word))
 abbrev pub layer_read : List ℕ → Result ℕ LineFault
 layer_read word = or_fault NoCount (capped 255 (number_in 10 word))
 
+abbrev pub position_read : List ℕ → Result ℕ LineFault
+position_read word = or_fault (NoNumber 65535) (up_to 65535 (number_in 10 word))
+
 -- an entry, of its key, kind, default, low and high
 abbrev pub entry_read : List ℕ → List ℕ → List ℕ → List ℕ → List ℕ → Result Entry LineFault
 entry_read key kind default low high =

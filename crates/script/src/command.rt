@@ -3,6 +3,7 @@ ghost use Rattle.std.specs.Prelude.{◌≡◌};
 ghost use Rattle.reference.specs.Events.{asking_of};
 ghost use Rattle.script.specs.Calls.{own_asking};
 
+use crate::host::HostCommand;
 use catalogue::Entry;
 use reference::{Battery, Call};
 use rule::Need;
@@ -78,4 +79,5 @@ pub enum Command {
     Words(Place),
     // what a receiver sent is to be read
     Read(Vec<u8>),
+    Host(HostCommand),
 }

@@ -1,13 +1,13 @@
 // The words behind a command, read into what they stand for.
 ghost use Rattle.std.specs.Prelude.{◌≡◌};
-ghost use Rattle.script.specs.Fields.{key_read, kind_read, value_read, count_read, layer_read, entry_read, need_read};
+ghost use Rattle.script.specs.Fields.{key_read, kind_read, value_read, count_read, layer_read, position_read, entry_read, need_read};
 
 use crate::fault::LineFault;
-use crate::number::{read_count, read_kind, read_layer, read_value, read_word};
+use crate::number::{read_count, read_kind, read_layer, read_position, read_value, read_word};
 use catalogue::{Entry, Kind};
 use rule::Need;
 
-// kept: the five differ in what is read and in what is said where it is none; `ok_or` is all that they share
+// kept: the six differ in what is read and in what is said where it is none; `ok_or` is all that they share
 pub(crate) fn key_in(word: &str) -> Result<u32, LineFault>
     ensures { result ≡ key_read word.now }
 {
@@ -24,6 +24,12 @@ fn kind_in(word: &str) -> Result<u8, LineFault>
     ensures { result ≡ kind_read word.now }
 {
     read_kind(word).ok_or(LineFault::NoNumber(u8::MAX as u64))
+}
+
+pub(crate) fn position_in(word: &str) -> Result<u16, LineFault>
+    ensures { result ≡ position_read word.now }
+{
+    read_position(word).ok_or(LineFault::NoNumber(u16::MAX as u64))
 }
 
 // A number of an item or of bytes. All of them from some number on mean the same, so any is taken.

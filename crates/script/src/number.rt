@@ -101,6 +101,13 @@ pub fn read_kind(text: &str) -> Option<u8>
     limited::<u8>(Base::Decimal, text)
 }
 
+// How many pairs a reply is to skip: a decimal number below 2^16.
+pub fn read_position(text: &str) -> Option<u16>
+    ensures { result ≡ up_to 65535 (number_in 10 text.now) }
+{
+    limited::<u16>(Base::Decimal, text)
+}
+
 // A count: any decimal number. One of 2^64 or more is read as 2^64 - 1.
 pub fn read_count(text: &str) -> Option<usize>
     ensures { result ≡ capped (2 ^ 64 - 1) (number_in 10 text.now) }

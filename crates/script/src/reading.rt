@@ -4,6 +4,7 @@ ghost use Rattle.std.specs.Prelude.{◌≡◌, length, IfOk, vec_len};
 use crate::command::{Choice, Command, Medium, OwnCall, Part, Place};
 use crate::fault::LineFault;
 use crate::field::{count_in, key_in, layer_in, read_entry, read_need, value_in};
+use crate::host::read_host;
 use crate::number::{read_byte, read_word};
 use journal::BLANK;
 use reference::Battery;
@@ -60,7 +61,7 @@ fn read_command(heap: Global, name: &str, words: &[&str]) -> Result<Command, Lin
         "words" => showing(words).map(Command::Words),
         "read" => Ok(Command::Read(bytes_in(heap, words)?)),
         "hostset" | "hostdel" | "hostget" | "hostbegin" | "hostadd" | "hostapply" | "hostabandon" =>
-            Err(LineFault::NotBuilt("the host end")),
+            read_host(heap, name, words).map(Command::Host),
         _ => read_part(heap, name, words).map(Command::SetUp),
     }
 }

@@ -91,6 +91,34 @@ fn what_is_not_built(rt: HostRuntime) -> Result<(), Fail> {
     )?;
     says(&rt, heap, "words bbr", "words is not built yet")?;
     says(&rt, heap, "inspect 640", "inspect is not built yet")?;
-    says(&rt, heap, "hostset 100 1", "the host end is not built yet")?;
     says(&rt, heap, "hosting", "there is no such command")
+}
+
+#[test]
+fn wrong_words_of_the_host(rt: HostRuntime) -> Result<(), Fail> {
+    let heap = rt.alloc();
+    says(
+        &rt,
+        heap,
+        "hostset 17 1 20510001",
+        "expected: hostset SIZE LAYERS [KEY VALUE...]",
+    )?;
+    says(
+        &rt,
+        heap,
+        "hostbegin both 17 1",
+        "expected: hostbegin set|del SIZE LAYERS [KEY VALUE...]|[KEY...]",
+    )?;
+    says(
+        &rt,
+        heap,
+        "hostget 16 0 65536",
+        "expected a decimal number up to 65535",
+    )?;
+    says(
+        &rt,
+        heap,
+        "hostapply 17",
+        "expected: no word behind hostapply or hostabandon",
+    )
 }

@@ -1,5 +1,5 @@
 // Numbers in text: their edges, and what is none.
-use script::{read_byte, read_count, read_kind, read_layer, read_value, read_word};
+use script::{read_byte, read_count, read_kind, read_layer, read_position, read_value, read_word};
 
 #[test]
 fn hexadecimal_numbers(rt: HostRuntime) {
@@ -25,6 +25,8 @@ fn decimal_numbers(rt: HostRuntime) {
     assert_eq!(rt; read_value("18446744073709551616"), None);
     assert_eq!(rt; read_kind("255"), Some(255));
     assert_eq!(rt; read_kind("256"), None);
+    assert_eq!(rt; read_position("65535"), Some(u16::MAX));
+    assert_eq!(rt; read_position("65536"), None);
 }
 
 // What is above the most that counts is told as that.

@@ -30,6 +30,13 @@ anywhere:
     inspect COUNT [WORD...]           what a buffer of words holds, or its fault
     words bbr|flash                   a journal's words, up to the last not blank
     read [BYTE...]                    tells what a receiver sent
+    hostset SIZE LAYERS [KEY VALUE..] into a buffer of SIZE bytes; prints
+                                      `host LEN BYTE...` or `host refused N`
+    hostdel SIZE LAYERS [KEY...]
+    hostget SIZE LAYER POSITION [KEY...]
+    hostbegin set|del SIZE LAYERS ... begins a transaction
+    hostadd SIZE ...                  adds to it
+    hostapply, hostabandon            end it
 
 example:
     printf '%s\\n' 'entry 20510001 0 65 8 119' make 'look 0 20510001' | ubxreplay

@@ -5,11 +5,13 @@
 
 mod answers;
 mod help;
+mod host;
 mod reading;
 mod said;
 mod seen;
 mod session;
 
+use crate::host::Host;
 use anyhow::anyhow;
 use help::HELP;
 use options::{Input, run};
@@ -37,8 +39,21 @@ fn text_of(heap: Global, input: Input) -> anyhow::Result<String> {
     }
 }
 
+// A transaction that the script leaves begun is abandoned, whether or not all lines were answered.
 fn answer_script<W: Write>(heap: Global, out: &mut W, text: &str) -> anyhow::Result<()> {
-    let mut session = Session::new(heap, out);
+    let mut host = Host::Idle;
+    let answered = answer_lines(heap, out, &mut host, text);
+    let _end = host.abandon();
+    answered
+}
+
+fn answer_lines<W: Write>(
+    heap: Global,
+    out: &mut W,
+    host: &mut Host,
+    text: &str,
+) -> anyhow::Result<()> {
+    let mut session = Session::new(heap, out, host);
     for (index, line) in text.lines().enumerate() {
         session.take_line(index.saturating_add(1), line)?;
     }

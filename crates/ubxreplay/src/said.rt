@@ -1,4 +1,5 @@
 // Lines whose answers hang on no call of a receiver.
+use crate::host::HostLine;
 use crate::reading::ReadLine;
 use journal::JournalFault;
 use script::LineFault;
@@ -25,6 +26,7 @@ pub enum Said {
     Inspected(Result<usize, JournalFault>),
     // the bytes, of which the first message is told
     Read(Vec<u8>),
+    Host(HostLine),
 }
 
 impl fmt::Display for Said {
@@ -41,6 +43,7 @@ impl fmt::Display for Said {
                 let line = ReadLine(bytes.as_slice());
                 write!(f, "{line}")
             }
+            Said::Host(line) => write!(f, "{line}"),
         }
     }
 }

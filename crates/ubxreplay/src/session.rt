@@ -1,5 +1,6 @@
 // What a script has come to: the set-up of a receiver and, behind its make, the lines that are answered when all of them are read.
 use crate::answers::{EventLine, MakeLine, WordsLine, WriteLine};
+use crate::host::Host;
 use crate::said::{ErrorLine, Said};
 use crate::seen::{SeenWords, Wanted};
 use anyhow::Context;
@@ -10,7 +11,7 @@ use receiver::Parts;
 use reference::Call;
 use replay::{Event, replay_watched};
 use rule::{Both, Need, Needs, Ranges};
-use script::{Command, LineFault, OwnCall, Part, Place, Setup, read_line};
+use script::{Command, HostCommand, LineFault, OwnCall, Part, Place, Setup, read_line};
 use std::alloc::{AllocError, Global};
 use std::io::Write;
 use std::{io, mem};
@@ -29,16 +30,19 @@ enum Step {
 pub struct Session<'a, W> {
     heap: Global,
     out: &'a mut W,
+    // lent, since a host may have a transaction that may not be let go
+    host: &'a mut Host,
     setup: Setup,
     // none before make
     steps: Option<Vec<Step>>,
 }
 
 impl<'a, W: Write> Session<'a, W> {
-    pub fn new(heap: Global, out: &'a mut W) -> Session<'a, W> {
+    pub fn new(heap: Global, out: &'a mut W, host: &'a mut Host) -> Session<'a, W> {
         Session {
             heap,
             out,
+            host,
             setup: Setup::new(heap),
             steps: None,
         }
@@ -58,6 +62,7 @@ impl<'a, W: Write> Session<'a, W> {
         match (command, &mut self.steps) {
             (Command::New, _) => {
                 self.finish()?;
+                self.host.forget();
                 self.setup = Setup::new(self.heap);
                 Ok(())
             }
@@ -71,8 +76,18 @@ impl<'a, W: Write> Session<'a, W> {
                 self.say(Said::Inspected(held))
             }
             (Command::Read(bytes), _) => self.say(Said::Read(bytes)),
+            (Command::Host(command), _) => self.obey_host(number, command),
             (Command::Call(_), None) => self.refuse(number, LineFault::CallBeforeMake),
             (_, Some(_)) => self.refuse(number, LineFault::SetUpAfterMake),
+        }
+    }
+
+    // A host does what it is told at once.
+    fn obey_host(&mut self, number: usize, command: HostCommand) -> anyhow::Result<()> {
+        match self.host.obey(self.heap, command) {
+            Ok(line) => self.say(Said::Host(line)),
+            Err(LineFault::NoMemory) => Err(LineFault::NoMemory.into()),
+            Err(fault) => self.refuse(number, fault),
         }
     }
 

@@ -1,0 +1,3 @@
+pub mod Building
+pub mod Heard
+pub mod Reading

@@ -1,0 +1,5 @@
+pub mod Begun
+pub mod Heard
+pub mod Payloads
+pub mod Refusals
+pub mod Requests
