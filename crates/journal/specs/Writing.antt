@@ -6,7 +6,7 @@ use Rattle.layer.specs.declared.fault.StoreFault.{StoreFault}
 use Rattle.layer.specs.Settings.{value_under, without}
 use Rattle.journal.specs.declared.fault.JournalFault.{JournalFault}
 use Rattle.journal.specs.Words.{blank, removal_word, setting_words}
-use Rattle.journal.specs.Inspecting.{any_record, progress, after_words, inspected, held_in}
+use Rattle.journal.specs.Inspecting.{any_record, Progress, progress, after_words, inspected, held_in}
 
 -- the records of settings, in their order
 unfoldable pub records_of : List Setting → List ℕ
@@ -44,6 +44,19 @@ words_after_remove r k ws =
 
 abbrev pub words_after_clear : Result (Unit {0}) StoreFault → List ℕ → List ℕ
 words_after_clear r ws = cond (is_ok r) (replicate (length ws) blank) ws
+
+-- Words that leave v under k, where another value or none stood: read behind records that leave ss.
+pub record Says (k v : ℕ) (ss : List Setting) (ws : List ℕ) : Type 0 where
+  pub at : ℕ
+  pub after : Progress
+  pub read : after_words at ws (Ok (progress ss any_record)) ≡ Ok after
+  pub other : value_under k ss ≢ Some v
+  pub left : value_under k after.held ≡ Some v
+
+-- Writing is the least that the format allows: no words that say so are fewer than the setting's own, and no more than these are used anew.
+pub record Least (k v : ℕ) (old new : List ℕ) : Type 0 where
+  pub words : (ws : List ℕ) → Says k v (held_in old) ws → length (setting_words k v) ≤ length ws
+  pub used : used_in new ≤ used_in old + length (setting_words k v)
 
 -- an inspection that told a fault, or settings
 abbrev pub told_as : Option JournalFault → List Setting → Result (List Setting) JournalFault

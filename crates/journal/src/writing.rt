@@ -58,6 +58,7 @@ fn change_words(words: &mut [u32], used: usize, held: &SlotTable, record: &Recor
     requires { Change words.old used (settings_of held.now.slots) record.now.key record.now.words.now record.now.lasting.now }
     ensures words { words.new ≡ recorded record.now.words.now (without record.now.key (settings_of held.now.slots)) record.now.lasting.now words.old }
     ensures written { Written words.new (settings_of held.now.slots) result }
+    ensures most { result ≤ used + length record.now.words.now }
 {
     let room = words.len() - used;
     if record.words.len() <= room {
@@ -77,6 +78,7 @@ pub(crate) fn write_change(
     requires { Change words.old.items used (settings_of held.now.slots) record.now.key record.now.words.now record.now.lasting.now }
     ensures words { words.new.items ≡ recorded record.now.words.now (without record.now.key (settings_of held.now.slots)) record.now.lasting.now words.old.items }
     ensures written { Written words.new.items (settings_of held.now.slots) result }
+    ensures most { result ≤ used + length record.now.words.now }
 {
     change_words(words.as_mut_slice(), used, held, record)
 }

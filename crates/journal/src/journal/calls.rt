@@ -4,7 +4,7 @@ ghost use Rattle.store.specs.Slots.{settings_of};
 ghost use Rattle.std.specs.Result.{result_err};
 ghost use Rattle.layer.specs.Stores.{put_answer, remove_answer, clear_answer, after_put, after_remove, after_clear};
 ghost use Rattle.journal.specs.Inspecting.{inspected, held_in, is_accepted};
-ghost use Rattle.journal.specs.Writing.{used_in, FirstBlank, words_after_put, words_after_remove, words_after_clear};
+ghost use Rattle.journal.specs.Writing.{used_in, FirstBlank, Least, words_after_put, words_after_remove, words_after_clear};
 ghost use Rattle.journal.specs.JournalLemmas.{held_ascends, held_sound, held_shows};
 
 use super::Journal;
@@ -123,6 +123,7 @@ impl Store for Journal {
         ensures after { held_in self.new.words.items ≡ after_put result key value (held_in self.old.words.items) }
         ensures mark { is_accepted self.new.words.items ≡ is_accepted self.old.words.items }
         ensures words { self.new.words.items ≡ words_after_put result key value self.old.words.items }
+        ensures least { OnOk result (Least key value self.old.words.items self.new.words.items) }
     {
         self.check_usable()?;
         self.held.put(key, value)?;
