@@ -120,9 +120,23 @@ unfolding after_words
 words_need k v at [] ss n q e lacks has = absurd (lacks (ap (λ r. value_under k (held_then r)) e ∙ has))
 words_need k v at (w ∷ ws) ss n q e lacks has = word_needs k v at w ws ss q lacks (λ hs m e2 no2. words_need k v (suc at) ws hs m q e2 no2 has) n (kind_of w) e
 
-words_least : (k v : ℕ) (ss : List Setting) (ws : List ℕ) → Says k v ss ws → length (setting_words k v) ≤ length ws
-words_least k v ss ws says = let h = words_need k v says.at ws ss any_record says.after says.read says.other says.left in omega (arith, length_parts (parts_under k) v)
+put_least : (k v : ℕ) (ss : List Setting) (ws : List ℕ) → Says k (Some v) ss ws → length (setting_words k v) ≤ length ws
+put_least k v ss ws says = let h = words_need k v says.at ws ss any_record says.after says.read says.other says.left in omega (arith, length_parts (parts_under k) v)
+
+-- no words at all change nothing
+one_least : (k : ℕ) (o : Option ℕ) (ss : List Setting) (ws : List ℕ) → Says k o ss ws → 1 ≤ length ws
+unfolding after_words
+one_least k o ss [] says = absurd (says.other (ap (λ r. value_under k (held_then r)) says.read ∙ says.left))
+one_least k o ss (w ∷ ws) says = omega arith
 
 -- a record that is written uses no more words than it has
-pub put_least : (k v : ℕ) (old new rs : List ℕ) (before after : ℕ) → rs ≡ setting_words k v → before ≡ used_in old → after ≡ used_in new → after ≤ before + length rs → Least k v old new
-put_least k v old new rs before after by was is most = record { words = words_least k v (held_in old); used = omega (arith, ap length by, was, is, most) }
+
+pub put_writes_least : (k v : ℕ) (old new rs : List ℕ) (before after : ℕ) → rs ≡ setting_words k v → before ≡ used_in old → after ≡ used_in new → after ≤ before + length rs
+    → Least k (Some v) (length (setting_words k v)) old new
+put_writes_least k v old new rs before after by was is most = record { words = put_least k v (held_in old); used = omega (arith, ap length by, was, is, most) }
+
+pub removal_writes_least : (k : ℕ) (old new : List ℕ) (before after : ℕ) → before ≡ used_in old → after ≡ used_in new → after ≤ before + 1 → Least k None 1 old new
+removal_writes_least k old new before after was is most = record { words = one_least k None (held_in old); used = omega (arith, was, is, most) }
+
+pub nothing_is_least : (k : ℕ) (old : List ℕ) → Least k None 1 old old
+nothing_is_least k old = record { words = one_least k None (held_in old); used = omega arith }

@@ -45,18 +45,18 @@ words_after_remove r k ws =
 abbrev pub words_after_clear : Result (Unit {0}) StoreFault → List ℕ → List ℕ
 words_after_clear r ws = cond (is_ok r) (replicate (length ws) blank) ws
 
--- Words that leave v under k, where another value or none stood: read behind records that leave ss.
-pub record Says (k v : ℕ) (ss : List Setting) (ws : List ℕ) : Type 0 where
+-- Words that leave a value under k, or none, where it was otherwise: read behind records that leave ss.
+pub record Says (k : ℕ) (o : Option ℕ) (ss : List Setting) (ws : List ℕ) : Type 0 where
   pub at : ℕ
   pub after : Progress
   pub read : after_words at ws (Ok (progress ss any_record)) ≡ Ok after
-  pub other : value_under k ss ≢ Some v
-  pub left : value_under k after.held ≡ Some v
+  pub other : value_under k ss ≢ o
+  pub left : value_under k after.held ≡ o
 
--- Writing is the least that the format allows: no words that say so are fewer than the setting's own, and no more than these are used anew.
-pub record Least (k v : ℕ) (old new : List ℕ) : Type 0 where
-  pub words : (ws : List ℕ) → Says k v (held_in old) ws → length (setting_words k v) ≤ length ws
-  pub used : used_in new ≤ used_in old + length (setting_words k v)
+-- So many words are the least that the format allows: no words that say so are fewer, and no more than these are used anew.
+pub record Least (k : ℕ) (o : Option ℕ) (count : ℕ) (old new : List ℕ) : Type 0 where
+  pub words : (ws : List ℕ) → Says k o (held_in old) ws → count ≤ length ws
+  pub used : used_in new ≤ used_in old + count
 
 -- an inspection that told a fault, or settings
 abbrev pub told_as : Option JournalFault → List Setting → Result (List Setting) JournalFault

@@ -1,6 +1,6 @@
 use Rattle.std.proofs.Common.{◌∙◌}
 use Rattle.journal.proofs.Changes.{put_recorded}
-use Rattle.journal.proofs.Least.{put_least}
+use Rattle.journal.proofs.Least.{put_writes_least}
 use Rattle.journal.proofs.journal.calls.JournalStore.put.Goals as goal
 
 pub returns-clause-words : goal.returns-clause-words
@@ -10,4 +10,4 @@ returns-clause-words c =
 
 pub returns-clause-least : goal.returns-clause-least
 returns-clause-least c =
-    put_least _ _ _ _ _ _ _ (c.as_slice-words.ensures.value ∙ c.setting_record-record.ensures) c.args.self.now.counted c.write_change-self.ensures.written.counted c.write_change-self.ensures.most
+    put_writes_least _ _ _ _ _ _ _ (c.as_slice-words.ensures.value ∙ c.setting_record-record.ensures) c.args.self.now.counted c.write_change-self.ensures.written.counted c.write_change-self.ensures.most

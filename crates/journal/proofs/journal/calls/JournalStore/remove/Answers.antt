@@ -1,6 +1,7 @@
 use Rattle.std.proofs.Common.{◌≡◌, false, is_some, rules}
 use Rattle.store.specs.Slots.{settings_of}
 use Rattle.journal.proofs.Changes.{remove_change, remove_recorded, not_held}
+use Rattle.journal.proofs.Least.{removal_writes_least}
 use Rattle.journal.proofs.journal.calls.JournalStore.remove.Goals as goal
 
 pub invariant_of-self-then-not-was_held : goal.invariant_of-self-then-not-was_held
@@ -19,3 +20,7 @@ pub returns-clause-words : goal.returns-clause-words
 returns-clause-words c =
     let removed = c.in_ok-remove.ensures in
     remove_recorded c.args.self.now.held _ _ _ _ _ _ c.write_change-self.ensures.words c.args.self.now.holds removed.after c.removal_word.ensures c.value.ensures c.if-not-was_held.ensures
+
+pub returns-clause-least : goal.returns-clause-least
+returns-clause-least c =
+    removal_writes_least _ _ _ _ _ c.args.self.now.counted c.write_change-self.ensures.written.counted c.write_change-self.ensures.most
