@@ -113,6 +113,7 @@ impl Store for Journal {
 
     ghost shows = { λ j. held_shows j };
 
+    #[tactic(auto, using(crate::specs::JournalLemmas::held_shows))]
     fn is_usable(&self) -> bool {
         self.fault.is_none()
     }
