@@ -86,10 +86,19 @@ pub(crate) fn write_change(
 }
 
 // Makes every word of an accepted buffer blank.
+fn blank_words(words: &mut [u32])
+    requires { is_accepted words.old ≡ true }
+    ensures words { words.new ≡ replicate (length words.old) blank }
+    ensures written { Written words.new [] 0 }
+{
+    words.fill(BLANK);
+}
+
+// The same, in the words that a journal owns.
 pub(crate) fn write_blanks(words: &mut Vec<u32>)
     requires { is_accepted words.old.items ≡ true }
     ensures words { words.new.items ≡ replicate (length words.old.items) blank }
     ensures written { Written words.new.items [] 0 }
 {
-    words.as_mut_slice().fill(BLANK);
+    blank_words(words.as_mut_slice());
 }

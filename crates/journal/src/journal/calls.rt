@@ -141,6 +141,7 @@ impl Store for Journal {
     }
 
     // Appends a removal where a word is blank; else rewrites what is left. What is not held is not removed.
+    #[tactic(auto, using(crate::proofs::Changes::remove_change))]
     fn remove(&mut self, key: u32) -> Result<(), StoreFault>
         ensures answer { result ≡ remove_answer (is_accepted self.old.words.items) key }
         ensures after { held_in self.new.words.items ≡ after_remove result key (held_in self.old.words.items) }
