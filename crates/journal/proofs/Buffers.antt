@@ -115,7 +115,7 @@ none_front (w ∷ ws) = go (w == blank) refl (none_front ws)
 
 -- A setting takes five words at most
 
-length_parts : (n v : ℕ) → length (part_words n v) ≡ n
+pub length_parts : (n v : ℕ) → length (part_words n v) ≡ n
 unfolding part_words
 length_parts zero v = refl
 length_parts (suc n) v = ap suc (length_parts n (v / 2 ^ 16))

@@ -1,5 +1,5 @@
 -- Changes: a record behind the used words, or the settings anew, leaves what the change leaves.
-use Rattle.std.proofs.Common.{◌≡◌, ℕ, ◌+◌, ◌-◌, ◌<◌, ◌≤◌, Bool, true, false, cond, List, [], ◌∷◌, ◌++◌, length, replicate, is_some, nat_le, true≢false, Some, None, Ok, Err, Option, Result, sym, refl, ap, ◌∙◌, arith}
+use Rattle.std.proofs.Common.{◌≡◌, ℕ, ◌+◌, ◌-◌, ◌<◌, ◌≤◌, Bool, true, false, cond, List, [], ◌∷◌, ◌++◌, length, replicate, is_some, is_ok, nat_le, true≢false, Some, None, Ok, Err, Option, Result, sym, refl, ap, ◌∙◌, arith}
 use Rattle.std.proofs.lemmas.Bool.Decides.{nat_tests}
 use Rattle.std.proofs.lemmas.Bool.{le-leb, cond-true, cond-false}
 use Rattle.std.proofs.lemmas.List.{length-append}
@@ -16,8 +16,9 @@ use Rattle.layer.specs.declared.fault.StoreFault.TheVariants.{IllFormedKey, Unfi
 use Rattle.layer.specs.Stores.{room, put_answer, remove_answer}
 use Rattle.layer.proofs.Stores.{setting_from}
 use Rattle.layer.proofs.Walking.{above_zero}
+use Rattle.journal.specs.declared.fault.JournalFault.{JournalFault}
 use Rattle.journal.specs.Words.{blank, removal_word, setting_words}
-use Rattle.journal.specs.Inspecting.{any_record, progress, after_words, inspected, held_in}
+use Rattle.journal.specs.Inspecting.{any_record, progress, after_words, inspected, held_in, is_accepted}
 use Rattle.journal.specs.Writing.{records_of, filled, used_in, recorded, Change, Written}
 use Rattle.journal.proofs.Records.{read_none, read_setting, read_removal}
 use Rattle.journal.proofs.Settings.{above_without, all_settings, all_without, length_without, without_twice, few_others, with_without}
@@ -158,8 +159,12 @@ pub not_written : (t : SlotTable) (ws : List ℕ) (k : ℕ) (o : Option ℕ) (re
 not_written t ws k o rest held is none = sym (cond-false _ _ _ (ap (λ (xs : List Setting). is_some (value_under k xs)) (sym held) ∙ ap is_some (sym is) ∙ sym none))
 
 -- all words blank
-pub blank_all : (ws new : List ℕ) (before : List Setting) → inspected ws ≡ Ok before → new ≡ replicate (length ws) blank → Written new [] 0
+pub blank_all : (ws new : List ℕ) → is_accepted ws ≡ true → new ≡ replicate (length ws) blank → Written new [] 0
 unfolding used_in
-blank_all ws new before e is =
-    let acc = accepted ws before e in
-    rw is (settled_with [] (length ws) [] (read_none 0 (Ok (progress [] any_record))) refl (omega (arith, acc.many)) (omega (arith, acc.few)))
+blank_all ws new ok is = go (inspected ws) refl ok
+  where
+    go : (r : Result (List Setting) JournalFault) → inspected ws ≡ r → is_ok r ≡ true → Written new [] 0
+    go (Ok before) e ok =
+        let acc = accepted ws before e in
+        rw is (settled_with [] (length ws) [] (read_none 0 (Ok (progress [] any_record))) refl (omega (arith, acc.many)) (omega (arith, acc.few)))
+    go (Err f) e ok = absurd (true≢false (sym ok))

@@ -5,3 +5,4 @@ pub mod Settings
 pub mod Buffers
 pub mod Walking
 pub mod Changes
+pub mod Least

@@ -6,7 +6,7 @@ use Rattle.layer.specs.declared.fault.StoreFault.{StoreFault}
 use Rattle.layer.specs.Settings.{value_under, without}
 use Rattle.journal.specs.declared.fault.JournalFault.{JournalFault}
 use Rattle.journal.specs.Words.{blank, removal_word, setting_words}
-use Rattle.journal.specs.Inspecting.{any_record, progress, after_words, inspected, held_in}
+use Rattle.journal.specs.Inspecting.{any_record, Progress, progress, after_words, inspected, held_in}
 
 -- the records of settings, in their order
 unfoldable pub records_of : List Setting → List ℕ
@@ -44,6 +44,19 @@ words_after_remove r k ws =
 
 abbrev pub words_after_clear : Result (Unit {0}) StoreFault → List ℕ → List ℕ
 words_after_clear r ws = cond (is_ok r) (replicate (length ws) blank) ws
+
+-- Words that leave a value under k, or none, where it was otherwise: read behind records that leave ss.
+pub record Says (k : ℕ) (o : Option ℕ) (ss : List Setting) (ws : List ℕ) : Type 0 where
+  pub at : ℕ
+  pub after : Progress
+  pub read : after_words at ws (Ok (progress ss any_record)) ≡ Ok after
+  pub other : value_under k ss ≢ o
+  pub left : value_under k after.held ≡ o
+
+-- So many words are the least that the format allows: no words that say so are fewer, and no more than these are used anew.
+pub record Least (k : ℕ) (o : Option ℕ) (count : ℕ) (old new : List ℕ) : Type 0 where
+  pub words : (ws : List ℕ) → Says k o (held_in old) ws → count ≤ length ws
+  pub used : used_in new ≤ used_in old + count
 
 -- an inspection that told a fault, or settings
 abbrev pub told_as : Option JournalFault → List Setting → Result (List Setting) JournalFault

@@ -1,9 +1,10 @@
 // Writing records over the words of a buffer.
-ghost use Rattle.std.specs.Prelude.{◌≡◌, ◌+◌, ◌≤◌, ◌++◌, length, replicate};
+ghost use Rattle.std.specs.Prelude.{◌≡◌, ◌+◌, ◌≤◌, true, [], ◌++◌, length, replicate};
 ghost use Rattle.frame.specs.Written.{patched, in_front};
 ghost use Rattle.layer.specs.Settings.{without};
 ghost use Rattle.store.specs.Slots.{settings_of};
 ghost use Rattle.journal.specs.Words.{blank};
+ghost use Rattle.journal.specs.Inspecting.{is_accepted};
 ghost use Rattle.journal.specs.Writing.{records_of, filled, recorded, Change, Written};
 
 use crate::record::{Record, setting_record};
@@ -54,10 +55,12 @@ fn rewrite(words: &mut [u32], held: &SlotTable, record: &Record<'_>) -> usize
 
 // Writes a change, after which the table says what is held: behind the used words where it fits, exactly too; else all anew. Answers how many words
 // are used.
+#[tactic(auto, using(crate::proofs::Buffers::used_le))]
 fn change_words(words: &mut [u32], used: usize, held: &SlotTable, record: &Record<'_>) -> usize
     requires { Change words.old used (settings_of held.now.slots) record.now.key record.now.words.now record.now.lasting.now }
     ensures words { words.new ≡ recorded record.now.words.now (without record.now.key (settings_of held.now.slots)) record.now.lasting.now words.old }
     ensures written { Written words.new (settings_of held.now.slots) result }
+    ensures most { result ≤ used + length record.now.words.now }
 {
     let room = words.len() - used;
     if record.words.len() <= room {
@@ -77,13 +80,25 @@ pub(crate) fn write_change(
     requires { Change words.old.items used (settings_of held.now.slots) record.now.key record.now.words.now record.now.lasting.now }
     ensures words { words.new.items ≡ recorded record.now.words.now (without record.now.key (settings_of held.now.slots)) record.now.lasting.now words.old.items }
     ensures written { Written words.new.items (settings_of held.now.slots) result }
+    ensures most { result ≤ used + length record.now.words.now }
 {
     change_words(words.as_mut_slice(), used, held, record)
 }
 
-// Makes every word blank.
-pub(crate) fn write_blanks(words: &mut Vec<u32>)
-    ensures { words.new.items ≡ replicate (length words.old.items) blank }
+// Makes every word of an accepted buffer blank.
+fn blank_words(words: &mut [u32])
+    requires { is_accepted words.old ≡ true }
+    ensures words { words.new ≡ replicate (length words.old) blank }
+    ensures written { Written words.new [] 0 }
 {
-    words.as_mut_slice().fill(BLANK);
+    words.fill(BLANK);
+}
+
+// The same, in the words that a journal owns.
+pub(crate) fn write_blanks(words: &mut Vec<u32>)
+    requires { is_accepted words.old.items ≡ true }
+    ensures words { words.new.items ≡ replicate (length words.old.items) blank }
+    ensures written { Written words.new.items [] 0 }
+{
+    blank_words(words.as_mut_slice());
 }

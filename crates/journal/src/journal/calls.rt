@@ -1,10 +1,11 @@
 // Opening a journal, and a journal as a layer and as a store.
-ghost use Rattle.std.specs.Prelude.{◌≡◌, None, Ok, OnOk};
+ghost use Rattle.std.specs.Prelude.{◌≡◌, length, Some, None, Ok, OnOk};
 ghost use Rattle.store.specs.Slots.{settings_of};
 ghost use Rattle.std.specs.Result.{result_err};
 ghost use Rattle.layer.specs.Stores.{put_answer, remove_answer, clear_answer, after_put, after_remove, after_clear};
+ghost use Rattle.journal.specs.Words.{setting_words};
 ghost use Rattle.journal.specs.Inspecting.{inspected, held_in, is_accepted};
-ghost use Rattle.journal.specs.Writing.{used_in, FirstBlank, words_after_put, words_after_remove, words_after_clear};
+ghost use Rattle.journal.specs.Writing.{used_in, FirstBlank, Least, words_after_put, words_after_remove, words_after_clear};
 ghost use Rattle.journal.specs.JournalLemmas.{held_ascends, held_sound, held_shows};
 
 use super::Journal;
@@ -112,6 +113,7 @@ impl Store for Journal {
 
     ghost shows = { λ j. held_shows j };
 
+    #[tactic(auto, using(crate::specs::JournalLemmas::held_shows))]
     fn is_usable(&self) -> bool {
         self.fault.is_none()
     }
@@ -123,6 +125,7 @@ impl Store for Journal {
         ensures after { held_in self.new.words.items ≡ after_put result key value (held_in self.old.words.items) }
         ensures mark { is_accepted self.new.words.items ≡ is_accepted self.old.words.items }
         ensures words { self.new.words.items ≡ words_after_put result key value self.old.words.items }
+        ensures least { OnOk result (Least key (Some value) (length (setting_words key value)) self.old.words.items self.new.words.items) }
     {
         self.check_usable()?;
         self.held.put(key, value)?;
@@ -138,11 +141,13 @@ impl Store for Journal {
     }
 
     // Appends a removal where a word is blank; else rewrites what is left. What is not held is not removed.
+    #[tactic(auto, using(crate::proofs::Changes::remove_change))]
     fn remove(&mut self, key: u32) -> Result<(), StoreFault>
         ensures answer { result ≡ remove_answer (is_accepted self.old.words.items) key }
         ensures after { held_in self.new.words.items ≡ after_remove result key (held_in self.old.words.items) }
         ensures mark { is_accepted self.new.words.items ≡ is_accepted self.old.words.items }
         ensures words { self.new.words.items ≡ words_after_remove result key self.old.words.items }
+        ensures least { OnOk result (Least key None 1 self.old.words.items self.new.words.items) }
     {
         self.check_usable()?;
         let was_held = self.held.value(key).is_some();

@@ -1,21 +1,12 @@
 use Rattle.std.proofs.Common.{arith}
 use Rattle.store.specs.SlotsLemmas.{ascends_settings, value_sound, table_shows}
-use Rattle.journal.proofs.Changes.{change_within, recorded_behind, written_behind, written_anew}
+use Rattle.journal.proofs.Changes.{change_within, written_behind, written_anew}
 use Rattle.journal.proofs.writing.change_words.Goals as goal
-
-pub overflow_sub-room : goal.overflow_sub-room
-overflow_sub-room c = change_within _ _ _ _ _ _ c.requires
-
-pub write_words-requires : goal.write_words-requires
-write_words-requires c = omega (arith, c.if-record-room.true, change_within _ _ _ _ _ _ c.requires)
-
-pub returns-then-record-room-clause-words : goal.returns-then-record-room-clause-words
-returns-then-record-room-clause-words c = recorded_behind _ _ _ _ _ _ c.requires _ c.if-record-room.true c.write_words.ensures.words
 
 pub returns-then-record-room-clause-written : goal.returns-then-record-room-clause-written
 returns-then-record-room-clause-written c =
     written_behind _ _ _ _ _ _ (ascends_settings c.args.held.now.slots) (λ k v. value_sound k v c.args.held.now.slots c.args.held.now.fit) (table_shows c.args.held.now.slots c.args.held.now.whole c.args.held.now.distinct).few c.requires
-    _ _ c.if-record-room.true (change_within _ _ _ _ _ _ c.requires) c.write_words.ensures.words c.write_words.ensures.place
+    _ _ (omega (arith, c.if-record-room.true)) (change_within _ _ _ _ _ _ c.requires) c.write_words.ensures.words c.write_words.ensures.place
 
 pub returns-else-record-room-clause-written : goal.returns-else-record-room-clause-written
 returns-else-record-room-clause-written c =
