@@ -80,7 +80,7 @@ impl<B: Store, F: Store, R: Rule> Receiver<B, F, R> {
     fn first(&self) -> Result<HeldFrame, usize>
         ensures { FirstIs (bytes_held self.now.held) result }
     {
-        HeldFrame::first_in(self.held.as_slice())
+        HeldFrame::first_in(&self.held)
     }
 
     // Answers the first frame that is held, if it is whole: what it was, its verdict, and how many bytes were written at the start of the buffer.
