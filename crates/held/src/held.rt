@@ -4,20 +4,18 @@
 ghost use Rattle.std.specs.Prelude.{◌≡◌, ◌+◌, ◌≤◌, length};
 ghost use Rattle.held.specs.Sums.{SummedTo};
 
-use frame::CheckBytes;
-
 pub mod calls;
 
 #[derive(Drop)]
 pub struct Held {
     // kept: fixed memory; a vector of fixed capacity would want `start` beside it too, and its bytes moved to the front by the same two steps
     bytes: [u8; 1560],
-    // the sums before each byte, from some byte that was taken on, and behind the last
-    sums: [CheckBytes; 1561],
+    // the sums over the bytes, begun at some byte that was taken: before each byte and behind the last
+    sums: [u8; 1562],
     start: usize,
     end: usize,
     ghost whole: { length bytes ≡ 1560 },
-    ghost sums_whole: { length sums ≡ 1561 },
+    ghost sums_whole: { length sums ≡ 1562 },
     ghost order: { start ≤ end },
     ghost within: { end ≤ 1560 },
     ghost few: { end ≤ start + 780 },

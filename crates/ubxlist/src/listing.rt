@@ -21,21 +21,22 @@ fn bench_receiver() -> BenchReceiver {
     Receiver::make(&bench_catalogue(), parts)
 }
 
-// A listing under way: how far the input was gone through, as the place of the first byte that is held and the noise before it.
+// A listing under way: how far the input was gone through, as the place of the first byte that is held and the noise before it. What is written
+// to the buffer is not listed.
 #[derive(Drop)]
 struct Listing<'a, W> {
     receiver: BenchReceiver,
     place: u64,
     noise: u64,
+    buffer: [u8; ANSWER_ROOM],
     out: &'a mut W,
 }
 
 impl<'a, W: Write> Listing<'a, W> {
-    // Answers the first frame that is held, and goes on to the byte behind it; what is written for it is not listed.
+    // Answers the first frame that is held, and goes on to the byte behind it.
     fn answer_first(&mut self) -> Result<Answered, CallFault> {
-        let mut buffer = [0u8; ANSWER_ROOM];
         let before = self.receiver.held_count();
-        let answered = self.receiver.answer(&mut buffer)?;
+        let answered = self.receiver.answer(&mut self.buffer)?;
         let dropped = before.saturating_sub(self.receiver.held_count());
         self.place = self.place.saturating_add(dropped as u64);
         Ok(answered)
@@ -90,6 +91,7 @@ pub fn list<R: Read, W: Write>(input: &mut R, out: &mut W) -> anyhow::Result<()>
         receiver: bench_receiver(),
         place: 0,
         noise: 0,
+        buffer: [0; ANSWER_ROOM],
         out,
     };
     listing.take_input(input)

@@ -3,7 +3,7 @@ ghost use Rattle.std.specs.Prelude.{◌≡◌, ◌+◌, ◌-◌, ◌≤◌, min,
 ghost use Rattle.held.specs.Meaning.{bytes_held};
 
 use super::Held;
-use crate::sums::sum_up;
+use crate::sums::{sum_up, sums_before};
 use frame::{CheckBytes, Summed};
 
 // The most bytes that are held, and how many there is room for in the array.
@@ -18,7 +18,7 @@ impl Held {
     {
         Held {
             bytes: [0; ROOM],
-            sums: [CheckBytes::new(); ROOM + 1],
+            sums: [0; ROOM + 2],
             start: 0,
             end: 0,
         }
@@ -40,7 +40,7 @@ impl Held {
     {
         if self.end + count > ROOM {
             self.bytes.copy_within(self.start..self.end, 0);
-            self.sums.copy_within(self.start..self.end + 1, 0);
+            self.sums.copy_within(self.start..self.end + 2, 0);
             self.end -= self.start;
             self.start = 0;
         }
@@ -106,6 +106,7 @@ impl Summed for Held {
     fn check_bytes_at(&self, place: usize, count: usize) -> CheckBytes {
         let first = self.start + place + 2;
         let count = 4 + count;
-        self.sums[first].up_to(self.sums[first + count], count)
+        let end = sums_before(&self.sums, first + count);
+        sums_before(&self.sums, first).up_to(end, count)
     }
 }
