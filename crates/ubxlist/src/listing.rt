@@ -33,43 +33,30 @@ struct Listing<'a, W> {
 }
 
 impl<'a, W: Write> Listing<'a, W> {
-    // Answers the first frame that is held, and goes on to the byte behind it.
-    fn answer_first(&mut self) -> Result<Answered, CallFault> {
+    // Answers the first frame that is held, and goes on to the byte behind it; its row, if one was told.
+    fn answer_first(&mut self) -> Result<Option<Row>, CallFault> {
         let before = self.receiver.held_count();
-        let answered = self.receiver.answer(&mut self.buffer)?;
+        let Answered { noise, told } = self.receiver.answer(&mut self.buffer)?;
         let dropped = before.saturating_sub(self.receiver.held_count());
+        let place = self.place.saturating_add(noise as u64);
+        self.noise = self.noise.saturating_add(noise as u64);
         self.place = self.place.saturating_add(dropped as u64);
-        Ok(answered)
+        Ok(told.map(|telling| Row { place, telling }))
     }
 
-    // Answers all frames that are whole in what is held. Each has a byte at least, and one answer more finds that none is whole.
-    fn answer_all(&mut self) -> anyhow::Result<()> {
-        // kept: a `while let` would have to be shown to end, by what the receiver holds; the bound says it in a line
-        for _ in 0..=self.receiver.held_count() {
-            let place = self.place;
-            let answered = self.answer_first()?;
-            let noise = answered.noise as u64;
-            self.noise = self.noise.saturating_add(noise);
-            let Some(telling) = answered.told else {
-                break;
-            };
-            let place = place.saturating_add(noise);
-            self.out.writeln(Row { place, telling })?;
-        }
-        Ok(())
-    }
-
-    // Takes a whole piece, as much at a time as the receiver has room for.
+    // Takes a whole piece, as much at a time as the receiver has room for, and lists the frames that are whole in what is held.
     fn take_all(&mut self, piece: &[u8]) -> anyhow::Result<()> {
         let mut rest = piece;
-        // kept: a `while` would have to be shown to end, by what each take takes; the bound says it in a line
-        for _ in 0..piece.len() {
-            if rest.is_empty() {
+        // kept: a `loop` would have to be shown to end, by what the receiver holds and takes; the bound says it in a line
+        for _ in 0..u64::MAX {
+            if let Some(row) = self.answer_first()? {
+                self.out.writeln(row)?;
+            } else if rest.is_empty() {
                 break;
+            } else {
+                let count = self.receiver.take(rest)?.min(rest.len());
+                rest = &rest[count..];
             }
-            let count = self.receiver.take(rest)?.min(rest.len());
-            rest = &rest[count..];
-            self.answer_all()?;
         }
         Ok(())
     }
