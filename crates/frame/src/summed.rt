@@ -1,12 +1,12 @@
 // Bytes whose running sums are at hand. The check bytes of any part of them cost two look-ups, so that each place of a search costs the same,
 // however long the frame would be that seems to begin there.
-ghost use Rattle.std.specs.Prelude.{◌≡◌, ℕ, ◌+◌, ◌<◌, ◌≤◌, List, length, take, drop};
+ghost use Rattle.std.specs.Prelude.{◌≡◌, ◌≢◌, ℕ, ◌+◌, ◌<◌, ◌≤◌, List, length, take, drop, slice_index};
 ghost use Rattle.frame.specs.Checksum.{check_bytes};
-ghost use Rattle.frame.specs.Frames.{max_payload, standing};
+ghost use Rattle.frame.specs.Frames.{preamble₁, max_payload, standing};
 ghost use Rattle.frame.specs.Scanning.{finding};
 ghost use Rattle.frame.specs.Meaning.{standing_of, passed, finding_of};
 
-use crate::format::{Frame, HEADER};
+use crate::format::{Frame, HEADER, PREAMBLE};
 use crate::scanner::{Found, Unheard, closed, from, nothing_heard, payload_size};
 use crate::sums::CheckBytes;
 
@@ -39,15 +39,28 @@ fn start_in<S: Summed>(summed: &S, place: usize) -> Result<Frame<'_>, Unheard>
     closed(bytes, count, summed.check_bytes_at(place, count))
 }
 
+// How many bytes there are before the first that may begin a frame.
+fn passed_over(bytes: &[u8]) -> usize
+    ensures within { result ≤ length bytes.now }
+    ensures noise { (k : ℕ) → k < result → slice_index bytes.now k ≢ preamble₁ }
+{
+    bytes
+        .iter()
+        .position(|byte| *byte == PREAMBLE[0])
+        .unwrap_or(bytes.len())
+}
+
 // Noise up to the first frame heard or undecided place, and that frame: what `find` finds, in a few steps for each byte of noise.
-#[tactic(auto, using(crate::proofs::Scanning::by_search))]
 pub fn find_in<S: Summed>(summed: &S) -> Found<'_>
     ensures { finding_of result ≡ finding (S.Summed.bytes summed.now) }
 {
     let bytes = summed.as_slice();
-    for noise in 0..bytes.len() {
+    let mut noise = 0;
+    // kept: bytes that cannot begin a frame are passed over in one call, so the places go up by steps of different size
+    'places: loop {
+        noise += passed_over(from(bytes, noise));
         match start_in(summed, noise) {
-            Err(Unheard::Noise) => {}
+            Err(Unheard::Noise) => noise += 1,
             Err(Unheard::Undecided) => return nothing_heard(bytes, noise),
             Ok(frame) => {
                 return Found {
@@ -58,5 +71,4 @@ pub fn find_in<S: Summed>(summed: &S) -> Found<'_>
             }
         }
     }
-    nothing_heard(bytes, bytes.len())
 }

@@ -1,4 +1,4 @@
-use Rattle.std.proofs.Common.{arith, rules}
+use Rattle.std.proofs.Common.{arith}
 use Rattle.frame.proofs.Checksum.{between_small}
 use Rattle.frame.proofs.sums.CheckBytes.up_to.Goals as goal
 
