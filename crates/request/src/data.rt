@@ -9,7 +9,7 @@ use crate::change::Change;
 use crate::changes::ItemChanges;
 use crate::head::{HEAD, Request, VALSET};
 use crate::key::key_at;
-use catalogue::{Catalogue, find_item};
+use catalogue::Catalogue;
 use item::{Selector, read_value, size_of};
 use reference::Refusal;
 
@@ -74,7 +74,7 @@ impl ItemChanges {
         ensures { Taken (entries_of catalogue.now) (pair_read (entries_of catalogue.now) bytes.now) (length bytes.now) self.old.slots self.new.slots result }
     {
         let pair = read_pair(bytes).ok_or(EntryFault::Cut)?;
-        let item = find_item(catalogue.entries(), pair.key).ok_or(EntryFault::Unknown)?;
+        let item = catalogue.find(pair.key).ok_or(EntryFault::Unknown)?;
         self.set(item, Some(Change::Put(pair.value)));
         Ok(pair.len)
     }
