@@ -1,4 +1,4 @@
-// An open transaction, and what a granted set or delete is to do.
+// An open transaction, and what a granted frame is to do.
 use reference::Layers;
 use request::ItemChanges;
 
@@ -16,12 +16,20 @@ pub(crate) struct Transaction {
     pub queue: LayerChange,
 }
 
+// A transaction that is opened or goes on: the ID of its kind, and its layers.
+#[derive(Clone, Copy)]
+pub(crate) struct Opening {
+    pub id: u8,
+    pub layers: Layers,
+}
+
+// What is to be done with the changes of a granted set or delete, which stand beside it: they are some kilobytes.
 #[derive(Clone, Copy)]
 pub(crate) enum Plan {
-    // make this change, and end the transaction
-    Apply(LayerChange),
-    // keep this transaction open
-    Queue(Transaction),
+    // make them in these layers, and end the transaction
+    Apply(Layers),
+    // keep this transaction open, with them queued
+    Queue(Opening),
 }
 
 // What a granted frame comes to.
