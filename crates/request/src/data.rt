@@ -150,11 +150,7 @@ impl Request<'_> {
 
     // What the data of a set or delete make of each item: the last value of a key stands. Refused data change none.
     // kept: the changes are written where the caller keeps them; they are some kilobytes, and a Result of them would be copied at each step
-    pub fn read_data(
-        &self,
-        catalogue: &Catalogue,
-        changes: &mut ItemChanges,
-    ) -> Result<(), Refusal>
+    pub fn read_data(&self, catalogue: &Catalogue, changes: &mut ItemChanges) -> Result<(), Refusal>
         ensures value { read_as (entries_of catalogue.now) changes.new.slots result ≡ ok_map latest (data_of (entries_of catalogue.now) self.now.id self.now.payload.now) }
         ensures refused { IfErr result (λ _. changes.new.slots ≡ replicate 128 None) }
     {

@@ -1,5 +1,5 @@
 // Carrying out what a frame was judged to do, and telling it.
-ghost use Rattle.std.specs.Prelude.{◌≡◌, ◌≤◌, length};
+ghost use Rattle.std.specs.Prelude.{◌≡◌, ◌≤◌, length, Some};
 ghost use Rattle.frame.specs.Frames.{frame_bytes};
 ghost use Rattle.frame.specs.Written.{patched};
 ghost use Rattle.catalogue.specs.Owned.{entries_of};
@@ -7,7 +7,7 @@ ghost use Rattle.request.specs.Changes.{changes_by};
 ghost use Rattle.reference.specs.Receiver.{with_transaction, written_if, applied, of_kind};
 ghost use Rattle.receiver.specs.State.{items_of, Kept};
 ghost use Rattle.receiver.specs.Written.{verdict_on};
-ghost use Rattle.receiver.specs.Plans.{after_plan, after_grant, after_verdict, grant_length, reply_length, verdict_id, told_by};
+ghost use Rattle.receiver.specs.Plans.{opening_of, after_plan, after_grant, after_verdict, grant_length, reply_length, verdict_id, told_by};
 
 use super::Receiver;
 use super::handling::ANSWER_ROOM;
@@ -46,6 +46,20 @@ impl<B: Store, F: Store, R: Rule> Receiver<B, F, R> {
         self.transaction = None;
     }
 
+    // Keeps a transaction open, with these changes queued.
+    // kept: a function of its own, since a place for the queue on the stack is cleared where a function begins
+    fn keep_open(&mut self, opening: Opening, items: &ItemChanges)
+        ensures after { ⟦<Self as Meaning>⟧.state self.new ≡ with_transaction (⟦<Self as Meaning>⟧.state self.old) (Some (opening_of (items_of self.old) items.now.slots opening)) }
+        ensures kept { Kept self.old self.new }
+    {
+        let Opening { id, layers } = opening;
+        let queue = LayerChange {
+            layers,
+            items: *items,
+        };
+        self.transaction = Some(Transaction { id, queue });
+    }
+
     // What a granted set or delete is to do.
     fn carry_out(&mut self, plan: Plan, items: &ItemChanges)
         ensures after { ⟦<Self as Meaning>⟧.state self.new ≡ after_plan (items_of self.old) (⟦<Self as Meaning>⟧.state self.old) items.now.slots plan }
@@ -53,13 +67,7 @@ impl<B: Store, F: Store, R: Rule> Receiver<B, F, R> {
     {
         match plan {
             Plan::Apply(layers) => self.apply(layers, items),
-            Plan::Queue(Opening { id, layers }) => {
-                let queue = LayerChange {
-                    layers,
-                    items: *items,
-                };
-                self.transaction = Some(Transaction { id, queue });
-            }
+            Plan::Queue(opening) => self.keep_open(opening, items),
         }
     }
 
