@@ -18,26 +18,21 @@ use Rattle.frame.specs.Written.{in_front}
 use Rattle.page.specs.Pages.{page_bytes}
 use Rattle.reference.specs.Receiver.{State, with_transaction, applied, apply, queue, reply, layer_of}
 use Rattle.reference.specs.Receiver.{Plan as Planned}
-use Rattle.reference.specs.Receiver.{Transaction as Opened}
 use Rattle.receiver.specs.declared.transaction.Granted.{Granted}
 use Rattle.receiver.specs.declared.transaction.Granted.TheVariants.{Change, Reply}
 use Rattle.receiver.specs.declared.transaction.Plan.{Plan}
 use Rattle.receiver.specs.declared.transaction.Plan.TheVariants.{Apply, Queue}
 use Rattle.receiver.specs.declared.first.HeldFrame.{HeldFrame}
-use Rattle.receiver.specs.declared.transaction.Opening.{Opening}
+use Rattle.receiver.specs.State.{opened_of}
 
 -- the message of a request that is heard
 abbrev pub request_message : Request → Message
 request_message r = carrying configuration_class r.id r.payload.now
 
--- a transaction that is opened with these changes, or goes on with them
-abbrev pub opening_of : List Entry → List (Option Slot) → Opening → Opened
-opening_of es slots o = record { kind = o.id; layers = o.layers; queue = changes_by es slots }
-
 -- a plan, with its changes beside it
 abbrev pub plan_of : List Entry → List (Option Slot) → Plan → Planned
 plan_of es slots (Apply l) = apply l (changes_by es slots)
-plan_of es slots (Queue o) = queue (opening_of es slots o)
+plan_of es slots (Queue t) = queue (opened_of es slots t)
 
 abbrev pub judgement_of : List Entry → List (Option Slot) → Result Plan Refusal → Result Planned Refusal
 judgement_of es slots (Ok p) = Ok (plan_of es slots p)
@@ -46,7 +41,7 @@ judgement_of es slots (Err r) = Err r
 -- the state that a plan leaves
 abbrev pub after_plan : List Entry → State → List (Option Slot) → Plan → State
 after_plan es s slots (Apply l) = applied es s l (changes_by es slots)
-after_plan es s slots (Queue o) = with_transaction s (Some (opening_of es slots o))
+after_plan es s slots (Queue t) = with_transaction s (Some (opened_of es slots t))
 
 -- the changes that an action is about, by those queued
 abbrev pub changes_for : Catalogue → Changes → Message → Action → Result Changes Refusal

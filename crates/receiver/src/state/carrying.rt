@@ -5,15 +5,15 @@ ghost use Rattle.frame.specs.Written.{patched};
 ghost use Rattle.catalogue.specs.Owned.{entries_of};
 ghost use Rattle.request.specs.Changes.{changes_by};
 ghost use Rattle.reference.specs.Receiver.{with_transaction, written_if, applied, of_kind};
-ghost use Rattle.receiver.specs.State.{items_of, Kept};
+ghost use Rattle.receiver.specs.State.{items_of, opened_of, Kept};
 ghost use Rattle.receiver.specs.Written.{verdict_on};
-ghost use Rattle.receiver.specs.Plans.{opening_of, after_plan, after_grant, after_verdict, grant_length, reply_length, verdict_id, told_by};
+ghost use Rattle.receiver.specs.Plans.{after_plan, after_grant, after_verdict, grant_length, reply_length, verdict_id, told_by};
 
 use super::Receiver;
 use super::handling::ANSWER_ROOM;
 use super::meaning::Meaning;
 use crate::first::HeldFrame;
-use crate::transaction::{Granted, LayerChange, Opening, Plan, Transaction};
+use crate::transaction::{Granted, Plan, Transaction};
 use crate::verdict::{Sign, write_verdict};
 use catalogue::Catalogue;
 use configuration::{StoreMeaning, apply_changes};
@@ -47,17 +47,12 @@ impl<B: Store, F: Store, R: Rule> Receiver<B, F, R> {
     }
 
     // Keeps a transaction open, with these changes queued.
-    // kept: a function of its own, since a place for the queue on the stack is cleared where a function begins
-    fn keep_open(&mut self, opening: Opening, items: &ItemChanges)
-        ensures after { ⟦<Self as Meaning>⟧.state self.new ≡ with_transaction (⟦<Self as Meaning>⟧.state self.old) (Some (opening_of (items_of self.old) items.now.slots opening)) }
+    fn keep_open(&mut self, transaction: Transaction, items: &ItemChanges)
+        ensures after { ⟦<Self as Meaning>⟧.state self.new ≡ with_transaction (⟦<Self as Meaning>⟧.state self.old) (Some (opened_of (items_of self.old) items.now.slots transaction)) }
         ensures kept { Kept self.old self.new }
     {
-        let Opening { id, layers } = opening;
-        let queue = LayerChange {
-            layers,
-            items: *items,
-        };
-        self.transaction = Some(Transaction { id, queue });
+        self.queue = *items;
+        self.transaction = Some(transaction);
     }
 
     // What a granted set or delete is to do.
@@ -67,7 +62,7 @@ impl<B: Store, F: Store, R: Rule> Receiver<B, F, R> {
     {
         match plan {
             Plan::Apply(layers) => self.apply(layers, items),
-            Plan::Queue(opening) => self.keep_open(opening, items),
+            Plan::Queue(transaction) => self.keep_open(transaction, items),
         }
     }
 

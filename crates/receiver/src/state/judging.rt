@@ -14,7 +14,7 @@ ghost use Rattle.receiver.specs.Plans.{request_message, changes_for, judgement_o
 use super::Receiver;
 use super::handling::ANSWER_ROOM;
 use super::meaning::Meaning;
-use crate::transaction::{Granted, Opening, Plan};
+use crate::transaction::{Granted, Plan, Transaction};
 use configuration::{apply_changes, fault_in};
 use layer::Store;
 use reference::{Layers, Refusal};
@@ -56,19 +56,20 @@ impl<B: Store, F: Store, R: Rule> Receiver<B, F, R> {
 
     // What is queued; nothing where no transaction is open.
     #[tactic(auto, using(crate::proofs::Planning::none_queued))]
-    fn queue(&self) -> ItemChanges
-        ensures { changes_by (items_of self.now) result.slots ≡ queue_of (option_map (opened_of (items_of self.now)) self.now.transaction) }
+    fn queued(&self) -> ItemChanges
+        ensures { changes_by (items_of self.now) result.slots ≡ queue_of (option_map (opened_of (items_of self.now) self.now.queue.slots) self.now.transaction) }
     {
-        self.transaction
-            .map_or(ItemChanges::none(), |transaction| transaction.queue.items)
+        match self.transaction {
+            Some(_) => self.queue,
+            None => ItemChanges::none(),
+        }
     }
 
     // What is queued, with more behind it.
     fn queue_with(&self, changes: &ItemChanges) -> ItemChanges
-        ensures { changes_by (items_of self.now) result.slots ≡ and_later (queue_of (option_map (opened_of (items_of self.now)) self.now.transaction)) (changes_by (items_of self.now) changes.now.slots) }
+        ensures { changes_by (items_of self.now) result.slots ≡ and_later (queue_of (option_map (opened_of (items_of self.now) self.now.queue.slots) self.now.transaction)) (changes_by (items_of self.now) changes.now.slots) }
     {
-        let queue = self.queue();
-        queue.and_later(changes)
+        self.queued().and_later(changes)
     }
 
     // The changes that an action is about: those of its frame, behind those queued where it adds. Closing does not read its own.
@@ -78,7 +79,7 @@ impl<B: Store, F: Store, R: Rule> Receiver<B, F, R> {
         action: Action,
         items: &mut ItemChanges,
     ) -> Result<(), Refusal>
-        ensures { read_as (items_of self.now) items.new.slots result ≡ changes_for (items_of self.now) (queue_of (option_map (opened_of (items_of self.now)) self.now.transaction)) (request_message request.now) action }
+        ensures { read_as (items_of self.now) items.new.slots result ≡ changes_for (items_of self.now) (queue_of (option_map (opened_of (items_of self.now) self.now.queue.slots) self.now.transaction)) (request_message request.now) action }
     {
         let catalogue = &self.layers.lower.catalogue;
         match action {
@@ -89,7 +90,7 @@ impl<B: Store, F: Store, R: Rule> Receiver<B, F, R> {
                 Ok(())
             }
             Action::Close => {
-                *items = self.queue();
+                *items = self.queued();
                 Ok(())
             }
         }
@@ -108,7 +109,7 @@ impl<B: Store, F: Store, R: Rule> Receiver<B, F, R> {
         self.changes_for(request, action, items)?;
         match action {
             Action::Apply | Action::Close => self.plan_to_apply(layers, items),
-            Action::Open | Action::Add => Ok(Plan::Queue(Opening {
+            Action::Open | Action::Add => Ok(Plan::Queue(Transaction {
                 id: request.id,
                 layers,
             })),
@@ -126,11 +127,9 @@ impl<B: Store, F: Store, R: Rule> Receiver<B, F, R> {
 
     // The layers that the open transaction was opened for.
     fn opened_layers(&self) -> Option<Layers>
-        ensures { result ≡ opened_layers (option_map (opened_of (items_of self.now)) self.now.transaction) }
+        ensures { result ≡ opened_layers (option_map (opened_of (items_of self.now) self.now.queue.slots) self.now.transaction) }
     {
-        self.transaction
-            .as_ref()
-            .map(|transaction| transaction.queue.layers)
+        self.transaction.map(|transaction| transaction.layers)
     }
 
     // A set, a delete or a get whose payload has a head.
