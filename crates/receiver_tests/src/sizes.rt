@@ -12,8 +12,8 @@ type TwoTables = Receiver<SlotTable, SlotTable, Both<Ranges, Needs>>;
 
 #[test]
 fn sizes_are_those_of_the_table(rt: HostRuntime) {
-    assert_eq!(rt; size_of::<TwoTables>(), 20600, "over two slot tables");
-    assert_eq!(rt; size_of::<Bench>(), 17528, "with no Flash");
+    assert_eq!(rt; size_of::<TwoTables>(), 20584, "over two slot tables");
+    assert_eq!(rt; size_of::<Bench>(), 17512, "with no Flash");
     assert_eq!(rt; size_of::<SlotTable>(), 3072, "a slot table");
     assert_eq!(rt; size_of::<Catalogue>(), 4104, "the catalogue");
     assert_eq!(rt; size_of::<Defaults>(), 4104, "the defaults");
