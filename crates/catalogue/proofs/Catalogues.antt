@@ -3,14 +3,20 @@ use Rattle.std.proofs.Common.{◌≡◌, ℕ, zero, suc, ◌+◌, ◌-◌, ◌<�
 use Rattle.std.proofs.lemmas.List.{at_drop_more, at_drop_all, get_or-drop, drop-drop, length-drop}
 use Rattle.std.proofs.lemmas.Slice.{between_to_end}
 use Rattle.std.specs.List.{slice_range}
-use Rattle.std.proofs.lemmas.Bool.{cases_order, leb-false, cond-false}
+use Rattle.std.proofs.lemmas.Bool.{cases_lt, cases_order, leb-false, cond-false}
+use Rattle.std.specs.List.Sorted.{IsSearchInRange, IsBinarySearchResult, IsNonDecreasingBy}
+use Rattle.std.specs.Result.{result_ok}
+use Rattle.std.specs.Ordering.{nat_cmp, ordering_index}
+use Rattle.std.proofs.lemmas.Cmp.{ranked}
+use Rattle.std.proofs.lemmas.List.Sorted.{IsNonDecreasingBy-from_default}
+use Rattle.std.proofs.lemmas.Bool.Decides.{nat_tests}
 use Rattle.catalogue.specs.declared.entries.CatalogueFault.{CatalogueFault}
 use Rattle.catalogue.specs.declared.entries.CatalogueFault.TheVariants.{IllFormedKey, OutOfOrder, Unsound}
 use Rattle.catalogue.specs.declared.entries.Entry.{Entry}
 use Rattle.item.specs.declared.selector.Selector.{Selector}
 use Rattle.item.specs.Keys.{well_formed}
 use Rattle.item.specs.Selectors.{names}
-use Rattle.catalogue.specs.Catalogues.{is_sound, entry_fault, unless_fault, entry_checked, entries_checked, Listed, blank, OnlyOnce, named, named_from, NextNamed, FirstNamed}
+use Rattle.catalogue.specs.Catalogues.{is_sound, entry_fault, unless_fault, entry_checked, entries_checked, Listed, blank, OnlyOnce, named, named_from, NextNamed, FirstNamed, FirstWith}
 
 err≢ok : (f : CatalogueFault) → ◌≡◌ {A = Result (Unit {0}) CatalogueFault} (Err f) (Ok tt) → ⊥
 err≢ok f e = cc
@@ -93,6 +99,25 @@ only_once es h =
           (⊎_elim (λ lt. let a = ascends 0 es i j l lt in-j in absurd (omega arith)) (λ lt. let a = ascends 0 es j i l lt in-i in absurd (omega arith)))
           (cases_order i j);
     }
+
+-- What a binary search by key finds among ascending entries: the one place of the key, or none
+
+module _ (es : List Entry) (l : Listed 0 es) (k : ℕ) where
+  comparisons_rise : IsNonDecreasingBy (λ (e : Entry). ordering_index (nat_cmp e.key k)) es
+  comparisons_rise = IsNonDecreasingBy-from_default (λ (e : Entry). ordering_index (nat_cmp e.key k)) es blank (λ i j le in_range.
+      let keys_rise : (get_or es i blank).key ≤ (get_or es j blank).key =
+      ⊎_elim (λ same. let k = ap (λ n. (get_or es n blank).key) same in omega arith) (⊎_elim (λ lt. let a = ascends 0 es i j l lt in_range in omega arith) (λ lt. absurd (omega arith))) (cases_order i j) in
+      grind (arith, nat_tests))
+
+  pub searched : (r : Result ℕ ℕ) → IsSearchInRange r (length es) → IsBinarySearchResult (λ (e : Entry). nat_cmp e.key k) es r → FirstWith k es (result_ok r)
+  searched (Ok i) in_range equal =
+      let here : (get_or es i blank).key ≡ k = ranked _ k _ (sym (equal blank)) in
+      (in_range, here, λ j lt e. let a = ascends 0 es j i l lt in_range in absurd (omega arith))
+  searched (Err i) in_range parted =
+      λ j lt e. ⊎_elim
+      (λ below. let a : (get_or es j blank).key < k = ranked _ k _ (sym ((parted comparisons_rise).0 j blank (omega arith) below)) in absurd (omega arith))
+      (λ behind. let a : k < (get_or es j blank).key = ranked _ k _ (sym ((parted comparisons_rise).1 j blank behind lt)) in absurd (omega arith))
+      (cases_lt j i)
 
 -- The walk over the named items, which has passed those before this place
 

@@ -25,10 +25,10 @@ fn check_behind<B: Store, F: Store, R: Rule>(
     if !bbr.is_usable() {
         return Err(PartsFault::BbrUnusable);
     }
-    if let Some(key) = stray_key(catalogue.entries(), bbr) {
+    if let Some(key) = stray_key(catalogue, bbr) {
         return Err(PartsFault::StrayInBbr(key));
     }
-    if let Some(key) = stray_key(catalogue.entries(), flash) {
+    if let Some(key) = stray_key(catalogue, flash) {
         return Err(PartsFault::StrayInFlash(key));
     }
     if let Some(item) = fault_in(catalogue, &Absent, rule) {

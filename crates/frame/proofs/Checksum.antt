@@ -72,6 +72,17 @@ between_is s xs f =
     let q : ((summed s xs).b + 256 - (length xs * s.a + s.b) % 256) % 256 ≡ (check_bytes xs).b = omega arith in
     λ i. record { a = p i; b = q i }
 
+-- the count may be taken modulo 256
+pub between_small : (s t : CheckBytes) (n : ℕ) → s.a ≤ 256
+    → record { a = (t.a + (256 - s.a)) % 256; b = (t.b + (256 - (n % 256 * s.a + s.b) % 256)) % 256 } ≡ sums_between s t n
+between_small s t n le =
+    let whole : s.a * (n % 256) + 256 * (s.a * (n / 256)) ≡ s.a * n =
+    ap (λ k. s.a * (n % 256) + k) (mul_left_comm 256 s.a (n / 256)) ∙ sym (mul-add s.a (n % 256) (256 * (n / 256))) ∙ ap (λ k. s.a * k) (mod-add-div n 256) in
+    let same : (n % 256 * s.a + s.b) % 256 ≡ (n * s.a + s.b) % 256 = omega (arith, whole) in
+    let p : (t.a + (256 - s.a)) % 256 ≡ (t.a + 256 - s.a) % 256 = omega arith in
+    let q : (t.b + (256 - (n % 256 * s.a + s.b) % 256)) % 256 ≡ (t.b + 256 - (n * s.a + s.b) % 256) % 256 = omega (arith, same) in
+    λ i. record { a = p i; b = q i }
+
 pub is_byte : (xs : List ℕ) → IsByte (check_bytes xs)
 is_byte xs =
     let a₀ = summed_a no_sums xs (omega arith, omega arith) in

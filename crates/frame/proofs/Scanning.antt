@@ -1,11 +1,11 @@
 -- Scanning: behind more bytes, in pieces, in order, with each byte counted once, and with no frame swallowed.
-use Rattle.std.proofs.Common.{◌≡◌, ℕ, zero, suc, ◌+◌, ◌≤◌, List, [], ◌∷◌, ◌++◌, length, drop, Some, None, Option, sym, refl, ap, ◌∙◌, subst, inl, inr, ⊎_elim, append_assoc, append-nil, le_of_suc-le-suc, not-suc-le-zero, add-zero, add-suc, suc-add, zero-add, arith}
-use Rattle.std.proofs.lemmas.List.{length-drop, drop-drop, drop_at, drop_all}
+use Rattle.std.proofs.Common.{◌≡◌, ℕ, zero, suc, ◌+◌, ◌<◌, ◌≤◌, List, [], ◌∷◌, ◌++◌, length, get_or, drop, Some, None, Option, sym, refl, ap, ◌∙◌, subst, inl, inr, ⊎_elim, append_assoc, append-nil, le_of_suc-le-suc, not-suc-le-zero, add-zero, add-suc, suc-add, zero-add, arith}
+use Rattle.std.proofs.lemmas.List.{length-drop, get_or-drop, drop-drop, drop_at, drop_all}
 use Rattle.std.proofs.lemmas.Bool.{cases_lt}
 use Rattle.std.specs.List.{AllByRecursion}
-use Rattle.frame.specs.Frames.{max_payload, Message, tail_size, size_of, frame_bytes, Standing, noise, undecided, intact, standing}
+use Rattle.frame.specs.Frames.{preamble₁, max_payload, Message, tail_size, size_of, frame_bytes, Standing, noise, undecided, intact, standing}
 use Rattle.frame.specs.Scanning.{Finding, behind_noise, finding_at, finding, Hearing, Scanned, with_noise, with_heard, waiting, scanned_at, scan_from, scanned, moved, both, Among, Inside, NoneSwallowed, InOrder, sizes, Promised, HeardAs}
-use Rattle.frame.proofs.Frames.{noise_more, intact_more, intact_fits, undecided_short, never_next, standing_none, frame_length, frame_is_intact}
+use Rattle.frame.proofs.Frames.{noise_more, intact_more, intact_fits, undecided_short, never_next, standing_none, standing_other, frame_length, frame_is_intact}
 
 -- Scanning at a byte that is decided
 
@@ -303,6 +303,28 @@ find_none bs = ap (counting (finding bs).message (finding bs).rest) (zero-add (f
 
 pub find_end : (bs : List ℕ) (i : ℕ) → length bs ≤ i → behind_all i (finding (drop i bs)) ≡ finding bs → record { skipped = i; message = None; rest = drop i bs } ≡ finding bs
 find_end bs i le inv = find_undecided bs i (drop i bs) refl inv (scan_past bs i le)
+
+-- bytes that begin no frame are passed over
+pub find_passed : (bs : List ℕ) (i n : ℕ) → i + n ≤ length bs → ((k : ℕ) → k < n → get_or (drop i bs) k 0 ≡ preamble₁ → ⊥)
+    → behind_all i (finding (drop i bs)) ≡ finding bs → behind_all (i + n) (finding (drop (i + n) bs)) ≡ finding bs
+find_passed bs i zero within passed inv = let same : i ≡ i + 0 = omega arith in subst (λ (k : ℕ). behind_all k (finding (drop k bs)) ≡ finding bs) same inv
+find_passed bs i (suc n) within passed inv =
+    let before = find_passed bs i n (omega arith) (λ k lt. passed k (omega arith)) inv in
+    let next : i + n + 1 ≡ i + suc n = omega arith in
+    let rest = length-drop (i + n) bs in
+    let here : i + n + 0 ≡ i + n = omega arith in
+    let byte : get_or (drop (i + n) bs) 0 0 ≡ get_or (drop i bs) n 0 = get_or-drop (i + n) bs 0 0 ∙ ap (λ k. get_or bs k 0) here ∙ sym (get_or-drop i bs n 0) in
+    let other = standing_other (drop (i + n) bs) (λ e. absurd (omega arith)) (λ e. passed n (omega arith) (sym byte ∙ e)) in
+    subst (λ (k : ℕ). behind_all k (finding (drop k bs)) ≡ finding bs) next (find_noise bs (i + n) (drop (i + n) bs) refl before (sym other))
+
+-- the same of bytes that were lent
+pub find_over : (bs view rest : List ℕ) (i n : ℕ) → view ≡ bs → rest ≡ drop i view → i ≤ length bs → n ≤ length rest → ((k : ℕ) → k < n → get_or rest k 0 ≡ preamble₁ → ⊥)
+    → behind_all i (finding (drop i bs)) ≡ finding bs → behind_all (i + n) (finding (drop (i + n) bs)) ≡ finding bs
+find_over bs view rest i n same is le few passed inv =
+    let there : rest ≡ drop i bs = is ∙ ap (drop i) same in
+    let size = ap length there in
+    let left = length-drop i bs in
+    find_passed bs i n (omega arith) (λ k lt e. passed k lt (ap (λ (l : List ℕ). get_or l k 0) there ∙ e)) inv
 
 pub ruleset by_search = (find_none, find_noise, find_undecided, find_end)
 

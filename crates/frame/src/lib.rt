@@ -7,15 +7,18 @@
 // format.rt   the constants of the format, and what a frame carries
 // sums.rt     the check bytes
 // scanner.rt  hearing: from bytes to frames
+// summed.rt  the first frame in bytes whose sums are at hand
 // writer.rt   from a message to the bytes of its frame
 #![tactic(auto)]
 
 mod format;
 mod scanner;
+mod summed;
 mod sums;
 mod writer;
 
 pub use format::{Frame, HEADER, MAX_FRAME, MAX_PAYLOAD, PREAMBLE, TRAILER};
 pub use scanner::{Found, Heard, Listing, Unheard, find, scan, start_of};
+pub use summed::{Summed, find_in};
 pub use sums::{CheckBytes, check_bytes};
 pub use writer::{WriteFault, write_frame};

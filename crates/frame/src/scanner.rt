@@ -21,7 +21,7 @@ pub enum Unheard {
 
 // The length of the payload, by the bytes before it. Each byte is judged as soon as it is there.
 #[tactic(auto, using(crate::proofs::Frames::by_header))]
-fn payload_size(bytes: &[u8]) -> Result<usize, Unheard>
+pub(crate) fn payload_size(bytes: &[u8]) -> Result<usize, Unheard>
     ensures { Headed bytes.now result }
 {
     if bytes.is_empty() {
@@ -48,7 +48,7 @@ fn payload_size(bytes: &[u8]) -> Result<usize, Unheard>
 
 // What stands there where the first check byte is there too and the check bytes should be `sums`.
 #[tactic(auto, using(crate::proofs::Frames::by_check_bytes))]
-fn closed(bytes: &[u8], count: usize, sums: CheckBytes) -> Result<Frame<'_>, Unheard>
+pub(crate) fn closed(bytes: &[u8], count: usize, sums: CheckBytes) -> Result<Frame<'_>, Unheard>
     requires { 6 + count < length bytes.now }
     ensures { standing_of result ≡ at_check_bytes sums (message_at count bytes.now) (drop (6 + count) bytes.now) }
 {
@@ -93,7 +93,7 @@ pub fn start_of(bytes: &[u8]) -> Result<Frame<'_>, Unheard>
 }
 
 // The bytes from a place on.
-fn from(bytes: &[u8], place: usize) -> &[u8]
+pub(crate) fn from(bytes: &[u8], place: usize) -> &[u8]
     requires { place ≤ length bytes.now }
     ensures value { result.now ≡ drop place bytes.now }
     ensures len { place + length result.now ≡ length bytes.now }
@@ -132,7 +132,7 @@ pub fn find(bytes: &[u8]) -> Found<'_>
 }
 
 // No frame is heard, and all bytes behind the noise are undecided.
-fn nothing_heard(bytes: &[u8], noise: usize) -> Found<'_>
+pub(crate) fn nothing_heard(bytes: &[u8], noise: usize) -> Found<'_>
     requires { noise ≤ length bytes.now }
     ensures { finding_of result ≡ record { skipped = noise; message = None; rest = drop noise bytes.now } }
 {
@@ -161,14 +161,14 @@ pub struct Listing<'a> {
 
 // Bytes, and the sums behind each of them. With these the check bytes of any part cost two look-ups.
 #[derive(Drop)]
-struct Summed<'a> {
+struct Running<'a> {
     bytes: &'a [u8],
     sums: Vec<CheckBytes>,
     ghost summed: { sums.items ≡ running_sums no_sums bytes.now },
     ghost len: { vec_len sums ≡ length bytes.now },
 }
 
-impl<'a> Summed<'a> {
+impl<'a> Running<'a> {
     // The check bytes of the frame at a place whose payload has so many bytes.
     fn check_bytes_at(&self, place: usize, count: usize) -> CheckBytes
         requires few { count ≤ max_payload }
@@ -202,7 +202,7 @@ pub fn scan(heap: Global, bytes: &[u8]) -> Result<Listing<'_>, AllocError>
     ensures promised { IfOk result (λ l. Promised bytes.now (scanned_of l)) }
 {
     let sums = running_sums(heap, bytes)?;
-    let summed = Summed { bytes, sums };
+    let summed = Running { bytes, sums };
     let mut frames = Vec::new(heap);
     let mut noise = 0usize;
     let mut place = 0usize;

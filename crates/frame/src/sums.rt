@@ -1,7 +1,6 @@
 // The checksum of a frame: two sums over the bytes from the class to the payload's end.
-ghost use Rattle.std.specs.Prelude.{◌≡◌, ◌+◌, ◌≤◌, length, IfOk, vec_len};
+ghost use Rattle.std.specs.Prelude.{◌≡◌, length, IfOk, vec_len};
 ghost use Rattle.frame.specs.Checksum.{with_byte, no_sums, check_bytes, running_sums, sums_between};
-ghost use Rattle.frame.specs.Frames.{max_payload};
 
 use std::alloc::{AllocError, Global};
 
@@ -32,11 +31,10 @@ impl CheckBytes {
     }
 
     // The check bytes of `count` bytes, before which the sums are `self` and behind which they are `end`.
-    pub(crate) fn up_to(self, end: CheckBytes, count: usize) -> CheckBytes
-        requires { count ≤ 4 + max_payload }
+    pub fn up_to(self, end: CheckBytes, count: usize) -> CheckBytes
         ensures { result ≡ sums_between self end count }
     {
-        let before = ((count * self.a as usize + self.b as usize) % 256) as u8;
+        let before = ((count % 256 * self.a as usize + self.b as usize) % 256) as u8;
         CheckBytes {
             a: end.a.wrapping_sub(self.a),
             b: end.b.wrapping_sub(before),

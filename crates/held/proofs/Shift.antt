@@ -17,7 +17,7 @@ between bs start end order =
     sym (ap (λ n. drop start (take n bs)) whole ∙ drop-take start (end - start) bs)
 
 -- bytes written behind those held
-pub written_behind : (bs ys : List ℕ) (start end : ℕ) → length bs ≡ 780 → start ≤ end → end + length ys ≤ 780
+pub written_behind : (bs ys : List ℕ) (start end : ℕ) → length bs ≡ 1560 → start ≤ end → end + length ys ≤ 1560
     → take (end + length ys - start) (drop start (put_mid end (end + length ys - end) bs ys)) ≡ take (end - start) (drop start bs) ++ ys
 written_behind bs ys start end whole order room =
     let front : length (take end bs) ≡ end = length-take-le end bs (omega arith) in

@@ -8,7 +8,7 @@ use std::fs::File;
 use std::io;
 use std::io::{ErrorKind, Read, Stdin};
 
-const PIECE: usize = 4096;
+const PIECE: usize = 32 * 1024;
 
 #[derive(Drop)]
 pub enum Input {
@@ -26,7 +26,7 @@ impl Read for Input {
     }
 }
 
-// Hands the whole input to `each`, piece after piece and in order, so that no more than some kilobytes are held, whatever the input's length.
+// Hands the whole input to `each`, piece after piece and in order, so that no more than some ten kilobytes are held, whatever the input's length.
 // The first failure, of a read or of `each`, ends it.
 pub fn for_each_piece<R: Read, F: FnMut(&[u8]) -> anyhow::Result<()>>(
     input: &mut R,

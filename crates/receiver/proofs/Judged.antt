@@ -7,6 +7,7 @@ use Rattle.frame.proofs.Frames.{frame_length}
 use Rattle.reference.proofs.Verdicts.{page_length}
 use Rattle.catalogue.specs.declared.entries.Entry.{Entry}
 use Rattle.rule.specs.Rules.{Finding}
+use Rattle.request.specs.declared.change.Change.{Change as Slot}
 use Rattle.page.specs.Pages.{page_frame, in_front_if_made}
 use Rattle.reference.specs.declared.refusal.Refusal.{Refusal}
 use Rattle.reference.specs.declared.refusal.Refusal.TheVariants.{UnknownVersion, OtherId, ShortPayload}
@@ -59,8 +60,8 @@ few_gotten cat s p = cond_both (ltb 0 (get_or p 0 0)) _ _ Few (λ _. tt) (λ _. 
 
 -- what the code answers to a get
 
-module _ (es : List Entry) (old out : List ℕ) where
-  reply_judged : (G : Result (List ℕ) Refusal) (n : ℕ) → Few G → Ok n ≡ ok_map length G → out ≡ in_front_if_made G old → Judged es old out (ok_map reply G) (Ok (Reply n))
+module _ (es : List Entry) (slots : List (Option Slot)) (old out : List ℕ) where
+  reply_judged : (G : Result (List ℕ) Refusal) (n : ℕ) → Few G → Ok n ≡ ok_map length G → out ≡ in_front_if_made G old → Judged es slots old out (ok_map reply G) (Ok (Reply n))
   reply_judged (Ok bs) n few e is =
       let same : n ≡ length bs = cc in
       record {
@@ -71,43 +72,43 @@ module _ (es : List Entry) (old out : List ℕ) where
       }
   reply_judged (Err r) n few e is = let z : ◌≡◌ {A = ℕ} 0 1 = cc in absurd (omega arith)
 
-  reply_refused : (G : Result (List ℕ) Refusal) (f : Refusal) → Err f ≡ ok_map length G → out ≡ in_front_if_made G old → Judged es old out (ok_map reply G) (Err f)
+  reply_refused : (G : Result (List ℕ) Refusal) (f : Refusal) → Err f ≡ ok_map length G → out ≡ in_front_if_made G old → Judged es slots old out (ok_map reply G) (Err f)
   reply_refused (Ok bs) f e is = let z : ◌≡◌ {A = ℕ} 0 1 = cc in absurd (omega arith)
   reply_refused (Err r) f e is = record { value = let same : f ≡ r = cc in ap Err same; out_is = is; length_is = refl; few = omega arith }
 
-module _ (cat : Catalogue) (rule : Finding) (s : State) (id : ℕ) (p old : List ℕ) where
+module _ (cat : Catalogue) (rule : Finding) (s : State) (id : ℕ) (p : List ℕ) (slots : List (Option Slot)) (old : List ℕ) where
   abbrev request : Message
   request = carrying configuration_class id p
 
   abbrev pub either : Result Planned Refusal
   either = cond (eqb id valget) (judged_get cat s request) (judged_change cat rule s request)
 
-  as_get : (out : List ℕ) (r : Result Granted Refusal) → 4 ≤ length p → id ≡ valget → Judged cat old out (ok_map reply (gotten cat s p)) r → Judged cat old out either r
-  as_get out r long is j = subst (λ (x : Result Planned Refusal). Judged cat old out x r) (sym (cond-true (eqb id valget) _ _ (eq-eqb id valget is) ∙ get_is cat s request long)) j
+  as_get : (out : List ℕ) (r : Result Granted Refusal) → 4 ≤ length p → id ≡ valget → Judged cat slots old out (ok_map reply (gotten cat s p)) r → Judged cat slots old out either r
+  as_get out r long is j = subst (λ (x : Result Planned Refusal). Judged cat slots old out x r) (sym (cond-true (eqb id valget) _ _ (eq-eqb id valget is) ∙ get_is cat s request long)) j
 
-  pub got : (out : List ℕ) (n : ℕ) → 4 ≤ length p → id ≡ valget → Ok n ≡ ok_map length (gotten cat s p) → out ≡ in_front_if_made (gotten cat s p) old → Judged cat old out either (Ok (Reply n))
-  got out n long is e o = as_get out (Ok (Reply n)) long is (reply_judged cat old out (gotten cat s p) n (few_gotten cat s p) e o)
+  pub got : (out : List ℕ) (n : ℕ) → 4 ≤ length p → id ≡ valget → Ok n ≡ ok_map length (gotten cat s p) → out ≡ in_front_if_made (gotten cat s p) old → Judged cat slots old out either (Ok (Reply n))
+  got out n long is e o = as_get out (Ok (Reply n)) long is (reply_judged cat slots old out (gotten cat s p) n (few_gotten cat s p) e o)
 
-  pub not_got : (out : List ℕ) (f : Refusal) → 4 ≤ length p → id ≡ valget → Err f ≡ ok_map length (gotten cat s p) → out ≡ in_front_if_made (gotten cat s p) old → Judged cat old out either (Err f)
-  not_got out f long is e o = as_get out (Err f) long is (reply_refused cat old out (gotten cat s p) f e o)
+  pub not_got : (out : List ℕ) (f : Refusal) → 4 ≤ length p → id ≡ valget → Err f ≡ ok_map length (gotten cat s p) → out ≡ in_front_if_made (gotten cat s p) old → Judged cat slots old out either (Err f)
+  not_got out f long is e o = as_get out (Err f) long is (reply_refused cat slots old out (gotten cat s p) f e o)
 
   -- the checks before all others
   pub judged_request : (out : List ℕ) (r : Result Granted Refusal) (b : Bool) → b ≡ (eqb id valset || (eqb id valget || eqb id valdel)) → b ≡ true → 4 ≤ length p
-      → Judged cat old out either r → Judged cat old out (judged cat rule s request) r
+      → Judged cat slots old out either r → Judged cat slots old out (judged cat rule s request) r
   unfolding judged unless
   judged_request out r b e on long j =
-      subst (λ (b : Bool). Judged cat old out (unless (not b) OtherId (unless (ltb (length p) 4) ShortPayload either)) r) (sym on ∙ e)
-      (subst (λ (b : Bool). Judged cat old out (unless b ShortPayload either) r) (sym (le-ltb (length p) 4 long)) j)
+      subst (λ (b : Bool). Judged cat slots old out (unless (not b) OtherId (unless (ltb (length p) 4) ShortPayload either)) r) (sym on ∙ e)
+      (subst (λ (b : Bool). Judged cat slots old out (unless b ShortPayload either) r) (sym (le-ltb (length p) 4 long)) j)
 
-  pub judged_short : (b : Bool) → b ≡ (eqb id valset || (eqb id valget || eqb id valdel)) → b ≡ true → length p < 4 → Judged cat old old (judged cat rule s request) (Err ShortPayload)
+  pub judged_short : (b : Bool) → b ≡ (eqb id valset || (eqb id valget || eqb id valdel)) → b ≡ true → length p < 4 → Judged cat slots old old (judged cat rule s request) (Err ShortPayload)
   unfolding judged unless
   judged_short b e on short =
-      subst (λ (b : Bool). Judged cat old old (unless (not b) OtherId (unless (ltb (length p) 4) ShortPayload either)) (Err ShortPayload)) (sym on ∙ e)
-      (subst (λ (b : Bool). Judged cat old old (unless b ShortPayload either) (Err ShortPayload)) (sym (lt-ltb (length p) 4 short))
+      subst (λ (b : Bool). Judged cat slots old old (unless (not b) OtherId (unless (ltb (length p) 4) ShortPayload either)) (Err ShortPayload)) (sym on ∙ e)
+      (subst (λ (b : Bool). Judged cat slots old old (unless b ShortPayload either) (Err ShortPayload)) (sym (lt-ltb (length p) 4 short))
       (record { value = refl; out_is = refl; length_is = refl; few = omega arith }))
 
-  pub judged_other : (b : Bool) → b ≡ (eqb id valset || (eqb id valget || eqb id valdel)) → b ≡ false → Judged cat old old (judged cat rule s request) (Err OtherId)
+  pub judged_other : (b : Bool) → b ≡ (eqb id valset || (eqb id valget || eqb id valdel)) → b ≡ false → Judged cat slots old old (judged cat rule s request) (Err OtherId)
   unfolding judged unless
   judged_other b e off =
-      subst (λ (b : Bool). Judged cat old old (unless (not b) OtherId (unless (ltb (length p) 4) ShortPayload either)) (Err OtherId)) (sym off ∙ e)
+      subst (λ (b : Bool). Judged cat slots old old (unless (not b) OtherId (unless (ltb (length p) 4) ShortPayload either)) (Err OtherId)) (sym off ∙ e)
       (record { value = refl; out_is = refl; length_is = refl; few = omega arith })

@@ -39,8 +39,8 @@ none_at [] n k = refl
 none_at (e ∷ es) zero k = refl
 none_at (e ∷ es) (suc n) k = let h = none_at es n k in grind (arith, nat_tests)
 
-pub none_queued : (es : List Entry) (cs : List (Option Change)) (t : Option Transaction) → cs ≡ replicate 128 None → t ≡ None → changes_by es cs ≡ queue_of (option_map (opened_of es) t)
-none_queued es cs t e is = ap (changes_by es) e ∙ fun_ext (λ k. none_at es 128 k) ∙ sym (ap (λ o. queue_of (option_map (opened_of es) o)) is)
+pub none_queued : (es : List Entry) (slots cs : List (Option Change)) (t : Option Transaction) → cs ≡ replicate 128 None → t ≡ None → changes_by es cs ≡ queue_of (option_map (opened_of es slots) t)
+none_queued es slots cs t e is = ap (changes_by es) e ∙ fun_ext (λ k. none_at es 128 k) ∙ sym (ap (λ o. queue_of (option_map (opened_of es slots) o)) is)
 
 -- What an action does with the changes that it is about
 

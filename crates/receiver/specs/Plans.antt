@@ -3,6 +3,7 @@ use Rattle.std.specs.Prelude.{◌≡◌, ℕ, ◌+◌, ◌≤◌, cond, List, []
 use Rattle.reference.specs.Requests.{Catalogue, Changes, latest, and_later, ok_map, data_of, configuration_class}
 use Rattle.catalogue.specs.declared.entries.Entry.{Entry}
 use Rattle.request.specs.Changes.{changes_by}
+use Rattle.request.specs.declared.change.Change.{Change as Slot}
 use Rattle.request.specs.declared.head.Request.{Request}
 use Rattle.request.specs.declared.action.Action.{Action}
 use Rattle.request.specs.declared.action.Action.TheVariants.{Apply as Applies, Open, Add, Close}
@@ -28,18 +29,19 @@ use Rattle.receiver.specs.State.{opened_of}
 abbrev pub request_message : Request → Message
 request_message r = carrying configuration_class r.id r.payload.now
 
-abbrev pub plan_of : List Entry → Plan → Planned
-plan_of es (Apply c) = apply c.layers (changes_by es c.items.slots)
-plan_of es (Queue t) = queue (opened_of es t)
+-- a plan, with its changes beside it
+abbrev pub plan_of : List Entry → List (Option Slot) → Plan → Planned
+plan_of es slots (Apply l) = apply l (changes_by es slots)
+plan_of es slots (Queue t) = queue (opened_of es slots t)
 
-abbrev pub judgement_of : List Entry → Result Plan Refusal → Result Planned Refusal
-judgement_of es (Ok p) = Ok (plan_of es p)
-judgement_of es (Err r) = Err r
+abbrev pub judgement_of : List Entry → List (Option Slot) → Result Plan Refusal → Result Planned Refusal
+judgement_of es slots (Ok p) = Ok (plan_of es slots p)
+judgement_of es slots (Err r) = Err r
 
 -- the state that a plan leaves
-abbrev pub after_plan : List Entry → State → Plan → State
-after_plan es s (Apply c) = applied es s c.layers (changes_by es c.items.slots)
-after_plan es s (Queue t) = with_transaction s (Some (opened_of es t))
+abbrev pub after_plan : List Entry → State → List (Option Slot) → Plan → State
+after_plan es s slots (Apply l) = applied es s l (changes_by es slots)
+after_plan es s slots (Queue t) = with_transaction s (Some (opened_of es slots t))
 
 -- the changes that an action is about, by those queued
 abbrev pub changes_for : Catalogue → Changes → Message → Action → Result Changes Refusal
@@ -57,13 +59,13 @@ abbrev pub gotten : Catalogue → State → List ℕ → Result (List ℕ) Refus
 gotten cat s p = cond (nat_lt 0 (slice_index p 0)) (Err UnknownVersion) (page_over cat (layer_of cat s (slice_index p 1)) p)
 
 -- Any request, with the reply that stands at the start of the buffer
-abbrev pub grant_of : List Entry → List ℕ → Granted → Planned
-grant_of es out (Change p) = plan_of es p
-grant_of es out (Reply n) = reply (take n out)
+abbrev pub grant_of : List Entry → List (Option Slot) → List ℕ → Granted → Planned
+grant_of es slots out (Change p) = plan_of es slots p
+grant_of es slots out (Reply n) = reply (take n out)
 
-abbrev pub verdicted_of : List Entry → List ℕ → Result Granted Refusal → Result Planned Refusal
-verdicted_of es out (Ok g) = Ok (grant_of es out g)
-verdicted_of es out (Err r) = Err r
+abbrev pub verdicted_of : List Entry → List (Option Slot) → List ℕ → Result Granted Refusal → Result Planned Refusal
+verdicted_of es slots out (Ok g) = Ok (grant_of es slots out g)
+verdicted_of es slots out (Err r) = Err r
 
 -- the bytes of a reply
 abbrev pub reply_in : Planned → List ℕ
@@ -98,17 +100,17 @@ abbrev pub told_by : HeldFrame → Result Granted Refusal → Telling
 told_by h r = record { class = h.class; id = h.id; verdict = verdict_of r; length = reply_length r + 10 }
 
 -- the state that is left: a refusal cancels
-abbrev pub after_grant : List Entry → State → Granted → State
-after_grant es s (Change p) = after_plan es s p
-after_grant es s (Reply n) = s
+abbrev pub after_grant : List Entry → State → List (Option Slot) → Granted → State
+after_grant es s slots (Change p) = after_plan es s slots p
+after_grant es s slots (Reply n) = s
 
-abbrev pub after_verdict : List Entry → State → Result Granted Refusal → State
-after_verdict es s (Ok g) = after_grant es s g
-after_verdict es s (Err r) = with_transaction s None
+abbrev pub after_verdict : List Entry → State → List (Option Slot) → Result Granted Refusal → State
+after_verdict es s slots (Ok g) = after_grant es s slots g
+after_verdict es s slots (Err r) = with_transaction s None
 
--- A judgement is the reference's; a reply stands at the start of the buffer, and nothing else was written.
-pub record Judged (es : List Entry) (old out : List ℕ) (judgement : Result Planned Refusal) (r : Result Granted Refusal) : Type 0 where
-  pub value : verdicted_of es out r ≡ judgement
+-- A judgement is the reference's, with its changes in these slots; a reply stands at the start of the buffer, and nothing else was written.
+pub record Judged (es : List Entry) (slots : List (Option Slot)) (old out : List ℕ) (judgement : Result Planned Refusal) (r : Result Granted Refusal) : Type 0 where
+  pub value : verdicted_of es slots out r ≡ judgement
   pub out_is : out ≡ in_front (reply_of judgement) old
   pub length_is : reply_length r ≡ length (reply_of judgement)
   pub few : reply_length r ≤ 780

@@ -7,6 +7,7 @@ use Rattle.held.specs.Meaning.{bytes_held}
 use Rattle.store.specs.Slots.{settings_of}
 use Rattle.rule.specs.Rules.{Finding}
 use Rattle.request.specs.Changes.{changes_by}
+use Rattle.request.specs.declared.change.Change.{Change}
 use Rattle.reference.specs.declared.fault.CallFault.{CallFault}
 use Rattle.reference.specs.declared.call.Battery.{Battery}
 use Rattle.reference.specs.declared.answered.Answered.{Answered}
@@ -18,8 +19,9 @@ use Rattle.reference.specs.Receiver.{Transaction as Opened}
 use Rattle.receiver.specs.declared.state.Receiver.{Receiver}
 use Rattle.receiver.specs.declared.transaction.Transaction.{Transaction}
 
-abbrev pub opened_of : List Entry → Transaction → Opened
-opened_of es t = record { kind = t.id; layers = t.queue.layers; queue = changes_by es t.queue.items.slots }
+-- an open transaction, with its queue in these slots
+abbrev pub opened_of : List Entry → List (Option Change) → Transaction → Opened
+opened_of es slots t = record { kind = t.id; layers = t.layers; queue = changes_by es slots }
 
 -- the entries of the catalogue that was copied
 abbrev pub items_of : {B F R : Type 0} → Receiver B F R → List Entry
@@ -34,7 +36,7 @@ state_of bu bs fu fs r =
       bbr = store_of bu bs r.layers.upper.upper;
       flash = store_of fu fs r.layers.upper.lower;
       held_bytes = bytes_held r.held;
-      transaction = option_map (opened_of (items_of r)) r.transaction;
+      transaction = option_map (opened_of (items_of r) r.queue.slots) r.transaction;
     }
 
 -- the reference's step from there, by what the rule finds

@@ -1,7 +1,8 @@
 // The first frame in the held bytes, as numbers: nothing of the bytes stays lent, so that the receiver can be changed before the frame is read.
-ghost use Rattle.std.specs.Prelude.{◌≡◌, ◌+◌, ◌≤◌, length};
+ghost use Rattle.std.specs.Prelude.{◌≡◌, ◌+◌, ◌≤◌};
 
-use frame::{HEADER, TRAILER, find};
+use frame::{HEADER, TRAILER, find_in};
+use held::Held;
 use reference::{Telling, Verdict};
 
 // A frame where it is heard in the held bytes, which are at most 780: the noise before it, its class and ID, and how many bytes its payload has.
@@ -15,14 +16,14 @@ pub(crate) struct HeldFrame {
 }
 
 impl HeldFrame {
+    ghost use Rattle.held.specs.Meaning.{bytes_held};
     ghost use Rattle.receiver.specs.First.{FirstIs, end_of};
 
-    // The first frame that is heard in at most 780 bytes; else how much noise there is.
-    pub(crate) fn first_in(bytes: &[u8]) -> Result<HeldFrame, usize>
-        requires { length bytes.now ≤ 780 }
-        ensures { FirstIs bytes.now result }
+    // The first frame that is heard; else how much noise there is.
+    pub(crate) fn first_in(held: &Held) -> Result<HeldFrame, usize>
+        ensures { FirstIs (bytes_held held.now) result }
     {
-        let found = find(bytes);
+        let found = find_in(held);
         let noise = found.noise;
         let frame = found.frame.ok_or(noise)?;
         Ok(HeldFrame {

@@ -3,6 +3,7 @@ use crate::transaction::Transaction;
 use configuration::Pile;
 use held::Held;
 use layer::Store;
+use request::ItemChanges;
 use rule::Rule;
 use store::SlotTable;
 
@@ -29,4 +30,6 @@ pub struct Receiver<B: Store, F: Store, R: Rule> {
     rule: R,
     ram: SlotTable,
     transaction: Option<Transaction>,
+    // what the open transaction would change; where none is open it says nothing
+    queue: ItemChanges,
 }

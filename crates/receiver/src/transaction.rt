@@ -1,26 +1,19 @@
-// An open transaction, and what a granted set or delete is to do.
+// An open transaction, and what a granted frame is to do. What is to change stands beside both: it is some kilobytes.
 use reference::Layers;
-use request::ItemChanges;
 
-// What is to change, and in which layers.
-#[derive(Clone, Copy)]
-pub(crate) struct LayerChange {
-    pub layers: Layers,
-    pub items: ItemChanges,
-}
-
-// The ID of the transaction's kind, and what it would change in the layers that it was opened for.
+// The ID of the transaction's kind, and the layers that it was opened for.
 #[derive(Clone, Copy)]
 pub(crate) struct Transaction {
     pub id: u8,
-    pub queue: LayerChange,
+    pub layers: Layers,
 }
 
+// What is to be done with the changes of a granted set or delete.
 #[derive(Clone, Copy)]
 pub(crate) enum Plan {
-    // make this change, and end the transaction
-    Apply(LayerChange),
-    // keep this transaction open
+    // make them in these layers, and end the transaction
+    Apply(Layers),
+    // keep this transaction open, with them queued
     Queue(Transaction),
 }
 

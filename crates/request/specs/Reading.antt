@@ -7,16 +7,15 @@ use Rattle.reference.specs.declared.refusal.Refusal.{Refusal}
 use Rattle.reference.specs.declared.refusal.Refusal.TheVariants.{CutEntry, UnknownKey}
 use Rattle.reference.specs.Requests.{Catalogue, valset, Data, Changes, latest, and_later, Read, cut, unknown, read, read_map, bytes_at, limit_at, pair_read, deletion_read}
 use Rattle.request.specs.declared.change.Change.{Change}
-use Rattle.request.specs.declared.changes.ItemChanges.{ItemChanges}
 use Rattle.request.specs.declared.data.Pair.{Pair}
 use Rattle.request.specs.declared.data.EntryFault.{EntryFault}
 use Rattle.request.specs.declared.data.EntryFault.TheVariants.{Cut, Unknown}
 use Rattle.request.specs.Changes.{changes_by}
 
 -- what was read means under a catalogue
-abbrev pub changes_of : List Entry → Result ItemChanges Refusal → Result Changes Refusal
-changes_of es (Ok c) = Ok (changes_by es c.slots)
-changes_of es (Err r) = Err r
+abbrev pub read_as : List Entry → List (Option Change) → Result (Unit {0}) Refusal → Result Changes Refusal
+read_as es slots (Ok tt) = Ok (changes_by es slots)
+read_as es slots (Err r) = Err r
 
 -- the pair at the front, whether or not its key is known; none where it is cut
 abbrev pub pair_in : List ℕ → Option Pair

@@ -1,15 +1,15 @@
 // The walk over the data of a set or delete: pairs of key and value, or keys and selectors, from byte 4 on and at most 64.
-ghost use Rattle.std.specs.Prelude.{◌≡◌, map, length};
+ghost use Rattle.std.specs.Prelude.{◌≡◌, map, length, replicate, IfErr};
 ghost use Rattle.catalogue.specs.Owned.{entries_of};
 ghost use Rattle.item.specs.Selectors.{selector_of};
 ghost use Rattle.reference.specs.Requests.{read_map, pair_read, deletion_read, keys_named, named_read, deleted, latest, ok_map, data_of};
-ghost use Rattle.request.specs.Reading.{pair_in, fault_at, entry_read, Taken, changes_of};
+ghost use Rattle.request.specs.Reading.{pair_in, fault_at, entry_read, Taken, read_as};
 
 use crate::change::Change;
 use crate::changes::ItemChanges;
 use crate::head::{HEAD, Request, VALSET};
 use crate::key::key_at;
-use catalogue::{Catalogue, find_item};
+use catalogue::Catalogue;
 use item::{Selector, read_value, size_of};
 use reference::Refusal;
 
@@ -74,7 +74,7 @@ impl ItemChanges {
         ensures { Taken (entries_of catalogue.now) (pair_read (entries_of catalogue.now) bytes.now) (length bytes.now) self.old.slots self.new.slots result }
     {
         let pair = read_pair(bytes).ok_or(EntryFault::Cut)?;
-        let item = find_item(catalogue.entries(), pair.key).ok_or(EntryFault::Unknown)?;
+        let item = catalogue.find(pair.key).ok_or(EntryFault::Unknown)?;
         self.set(item, Some(Change::Put(pair.value)));
         Ok(pair.len)
     }
@@ -127,17 +127,17 @@ impl ItemChanges {
 }
 
 impl Request<'_> {
-    // What the data of a set or delete make of each item: the last value of a key stands.
+    // Takes all entries, over changes that are none yet.
     #[tactic(auto, using(crate::proofs::Walks::data_start, crate::proofs::Walks::data_end, crate::proofs::Walks::data_many))]
-    pub fn read_data(&self, catalogue: &Catalogue) -> Result<ItemChanges, Refusal>
-        ensures { changes_of (entries_of catalogue.now) result ≡ ok_map latest (data_of (entries_of catalogue.now) self.now.id self.now.payload.now) }
+    fn take_entries(&self, catalogue: &Catalogue, changes: &mut ItemChanges) -> Result<(), Refusal>
+        requires { changes.old.slots ≡ replicate 128 None }
+        ensures { read_as (entries_of catalogue.now) changes.new.slots result ≡ ok_map latest (data_of (entries_of catalogue.now) self.now.id self.now.payload.now) }
     {
-        let mut changes = ItemChanges::none();
         // kept: entries differ in length, so no chunks or iterator of the library yields them
         let mut place = HEAD;
         for _entry in 0..MAX_ENTRIES {
             if place >= self.payload.len() {
-                return Ok(changes);
+                return Ok(());
             }
             let taken = changes.take_entry(catalogue, self.id, &self.payload[place..]);
             place += taken.map_err(|fault| fault.at(place))?;
@@ -145,6 +145,20 @@ impl Request<'_> {
         if place < self.payload.len() {
             return Err(Refusal::TooManyEntries(place));
         }
-        Ok(changes)
+        Ok(())
+    }
+
+    // What the data of a set or delete make of each item: the last value of a key stands. Refused data change none.
+    // kept: the changes are written where the caller keeps them; they are some kilobytes, and a Result of them would be copied at each step
+    pub fn read_data(&self, catalogue: &Catalogue, changes: &mut ItemChanges) -> Result<(), Refusal>
+        ensures value { read_as (entries_of catalogue.now) changes.new.slots result ≡ ok_map latest (data_of (entries_of catalogue.now) self.now.id self.now.payload.now) }
+        ensures refused { IfErr result (λ _. changes.new.slots ≡ replicate 128 None) }
+    {
+        changes.forget();
+        let taken = self.take_entries(catalogue, changes);
+        if taken.is_err() {
+            changes.forget();
+        }
+        taken
     }
 }

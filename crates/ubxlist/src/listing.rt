@@ -21,54 +21,42 @@ fn bench_receiver() -> BenchReceiver {
     Receiver::make(&bench_catalogue(), parts)
 }
 
-// A listing under way: how far the input was gone through, as the place of the first byte that is held and the noise before it.
+// A listing under way: how far the input was gone through, as the place of the first byte that is held and the noise before it. What is written
+// to the buffer is not listed.
 #[derive(Drop)]
 struct Listing<'a, W> {
     receiver: BenchReceiver,
     place: u64,
     noise: u64,
+    buffer: [u8; ANSWER_ROOM],
     out: &'a mut W,
 }
 
 impl<'a, W: Write> Listing<'a, W> {
-    // Answers the first frame that is held, and goes on to the byte behind it; what is written for it is not listed.
-    fn answer_first(&mut self) -> Result<Answered, CallFault> {
-        let mut buffer = [0u8; ANSWER_ROOM];
+    // Answers the first frame that is held, and goes on to the byte behind it; its row, if one was told.
+    fn answer_first(&mut self) -> Result<Option<Row>, CallFault> {
         let before = self.receiver.held_count();
-        let answered = self.receiver.answer(&mut buffer)?;
+        let Answered { noise, told } = self.receiver.answer(&mut self.buffer)?;
         let dropped = before.saturating_sub(self.receiver.held_count());
+        let place = self.place.saturating_add(noise as u64);
+        self.noise = self.noise.saturating_add(noise as u64);
         self.place = self.place.saturating_add(dropped as u64);
-        Ok(answered)
+        Ok(told.map(|telling| Row { place, telling }))
     }
 
-    // Answers all frames that are whole in what is held. Each has a byte at least, and one answer more finds that none is whole.
-    fn answer_all(&mut self) -> anyhow::Result<()> {
-        // kept: a `while let` would have to be shown to end, by what the receiver holds; the bound says it in a line
-        for _ in 0..=self.receiver.held_count() {
-            let place = self.place;
-            let answered = self.answer_first()?;
-            let noise = answered.noise as u64;
-            self.noise = self.noise.saturating_add(noise);
-            let Some(telling) = answered.told else {
-                break;
-            };
-            let place = place.saturating_add(noise);
-            self.out.writeln(Row { place, telling })?;
-        }
-        Ok(())
-    }
-
-    // Takes a whole piece, as much at a time as the receiver has room for.
+    // Takes a whole piece, as much at a time as the receiver has room for, and lists the frames that are whole in what is held.
     fn take_all(&mut self, piece: &[u8]) -> anyhow::Result<()> {
         let mut rest = piece;
-        // kept: a `while` would have to be shown to end, by what each take takes; the bound says it in a line
-        for _ in 0..piece.len() {
-            if rest.is_empty() {
+        // kept: a `loop` would have to be shown to end, by what the receiver holds and takes; the bound says it in a line
+        for _ in 0..u64::MAX {
+            if let Some(row) = self.answer_first()? {
+                self.out.writeln(row)?;
+            } else if rest.is_empty() {
                 break;
+            } else {
+                let count = self.receiver.take(rest)?.min(rest.len());
+                rest = &rest[count..];
             }
-            let count = self.receiver.take(rest)?.min(rest.len());
-            rest = &rest[count..];
-            self.answer_all()?;
         }
         Ok(())
     }
@@ -90,6 +78,7 @@ pub fn list<R: Read, W: Write>(input: &mut R, out: &mut W) -> anyhow::Result<()>
         receiver: bench_receiver(),
         place: 0,
         noise: 0,
+        buffer: [0; ANSWER_ROOM],
         out,
     };
     listing.take_input(input)

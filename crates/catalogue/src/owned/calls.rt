@@ -1,6 +1,6 @@
-// Copying a catalogue, and lending its entries.
+// Copying a catalogue, lending its entries, and finding an item.
 ghost use Rattle.std.specs.Prelude.{◌≡◌, ◌≤◌, true, length, is_ok};
-ghost use Rattle.catalogue.specs.Catalogues.{entries_checked, Listed};
+ghost use Rattle.catalogue.specs.Catalogues.{entries_checked, Listed, FirstWith};
 ghost use Rattle.catalogue.specs.Owned.{entries_of, accepted_entries};
 
 use super::Catalogue;
@@ -36,5 +36,14 @@ impl Catalogue {
         ensures listed { Listed 0 result.now }
     {
         self.entries.as_slice()
+    }
+
+    // The number of the item with this key. Keys ascend, so a binary search finds it.
+    pub fn find(&self, key: u32) -> Option<usize>
+        ensures { FirstWith key (entries_of self.now) result }
+    {
+        self.entries()
+            .binary_search_by_key(&key, |entry| entry.key)
+            .ok()
     }
 }

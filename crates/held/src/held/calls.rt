@@ -3,6 +3,13 @@ ghost use Rattle.std.specs.Prelude.{◌≡◌, ◌+◌, ◌-◌, ◌≤◌, min,
 ghost use Rattle.held.specs.Meaning.{bytes_held};
 
 use super::Held;
+use crate::sums::{sum_up, sums_before};
+use frame::{CheckBytes, Summed};
+
+// The most bytes that are held, and how many there is room for in the array.
+const MOST: usize = 780;
+
+const ROOM: usize = 2 * MOST;
 
 impl Held {
     // Nothing is held.
@@ -10,7 +17,8 @@ impl Held {
         ensures { bytes_held result ≡ [] }
     {
         Held {
-            bytes: [0; 780],
+            bytes: [0; ROOM],
+            sums: [0; ROOM + 2],
             start: 0,
             end: 0,
         }
@@ -28,10 +36,11 @@ impl Held {
     fn make_room(&mut self, count: usize)
         requires { count + length (bytes_held self.old) ≤ 780 }
         ensures held { bytes_held self.new ≡ bytes_held self.old }
-        ensures room { self.new.end + count ≤ 780 }
+        ensures room { self.new.end + count ≤ 1560 }
     {
-        if self.end + count > 780 {
+        if self.end + count > ROOM {
             self.bytes.copy_within(self.start..self.end, 0);
+            self.sums.copy_within(self.start..self.end + 2, 0);
             self.end -= self.start;
             self.start = 0;
         }
@@ -45,15 +54,17 @@ impl Held {
         self.end - self.start
     }
 
-    // Writes bytes behind those held, where there is room.
+    // Writes bytes behind those held, where there is room, and sums them up.
     #[tactic(auto, using(crate::proofs::Shift::written_behind))]
     fn write_behind(&mut self, bytes: &[u8])
-        requires { self.old.end + length bytes.now ≤ 780 }
+        requires room { self.old.end + length bytes.now ≤ 1560 }
+        requires few { length (bytes_held self.old) + length bytes.now ≤ 780 }
         ensures { bytes_held self.new ≡ bytes_held self.old ++ bytes.now }
     {
         let end = self.end;
         let next = end + bytes.len();
         self.bytes[end..next].copy_from_slice(bytes);
+        sum_up(&self.bytes, &mut self.sums, end, next);
         self.end = next;
     }
 
@@ -62,7 +73,7 @@ impl Held {
         ensures count { result ≡ min (length piece.now) (780 - length (bytes_held self.old)) }
         ensures after { bytes_held self.new ≡ bytes_held self.old ++ take result piece.now }
     {
-        let room = 780 - self.count();
+        let room = MOST - self.count();
         let count = piece.len().min(room);
         self.make_room(count);
         self.write_behind(&piece[0..count]);
@@ -81,5 +92,21 @@ impl Held {
             self.start = 0;
             self.end = 0;
         }
+    }
+}
+
+impl Summed for Held {
+    ghost bytes = { bytes_held };
+
+    fn as_slice(&self) -> &[u8] {
+        Held::as_slice(self)
+    }
+
+    #[tactic(auto, using(crate::proofs::Running::part_sums))]
+    fn check_bytes_at(&self, place: usize, count: usize) -> CheckBytes {
+        let first = self.start + place + 2;
+        let count = 4 + count;
+        let end = sums_before(&self.sums, first + count);
+        sums_before(&self.sums, first).up_to(end, count)
     }
 }

@@ -60,7 +60,7 @@ impl<B: Store, F: Store, R: Rule> Receiver<B, F, R> {
     fn knows(&self, key: u32) -> bool
         ensures { result ≡ is_known (items_of self.now) key }
     {
-        is_known(self.layers.lower.catalogue.entries(), key)
+        is_known(&self.layers.lower.catalogue, key)
     }
 
     // What a layer (0 RAM, 1 BBR, 2 Flash, 7 the defaults) holds under the key of an item.

@@ -1,11 +1,11 @@
 // Carrying out what a frame was judged to do, and telling it.
-ghost use Rattle.std.specs.Prelude.{◌≡◌, ◌≤◌, length};
+ghost use Rattle.std.specs.Prelude.{◌≡◌, ◌≤◌, length, Some};
 ghost use Rattle.frame.specs.Frames.{frame_bytes};
 ghost use Rattle.frame.specs.Written.{patched};
 ghost use Rattle.catalogue.specs.Owned.{entries_of};
 ghost use Rattle.request.specs.Changes.{changes_by};
 ghost use Rattle.reference.specs.Receiver.{with_transaction, written_if, applied, of_kind};
-ghost use Rattle.receiver.specs.State.{items_of, Kept};
+ghost use Rattle.receiver.specs.State.{items_of, opened_of, Kept};
 ghost use Rattle.receiver.specs.Written.{verdict_on};
 ghost use Rattle.receiver.specs.Plans.{after_plan, after_grant, after_verdict, grant_length, reply_length, verdict_id, told_by};
 
@@ -13,12 +13,12 @@ use super::Receiver;
 use super::handling::ANSWER_ROOM;
 use super::meaning::Meaning;
 use crate::first::HeldFrame;
-use crate::transaction::{Granted, LayerChange, Plan};
+use crate::transaction::{Granted, Plan, Transaction};
 use crate::verdict::{Sign, write_verdict};
 use catalogue::Catalogue;
 use configuration::{StoreMeaning, apply_changes};
 use layer::Store;
-use reference::{Refusal, Telling, Verdict};
+use reference::{Layers, Refusal, Telling, Verdict};
 use request::ItemChanges;
 use rule::Rule;
 
@@ -35,11 +35,10 @@ fn apply_if<S: Store>(chosen: bool, catalogue: &Catalogue, changes: &ItemChanges
 impl<B: Store, F: Store, R: Rule> Receiver<B, F, R> {
     // Changes the chosen layers, RAM first, then BBR, then Flash, and ends the transaction.
     #[tactic(auto, using(crate::proofs::Carried::applied_is))]
-    fn apply(&mut self, change: &LayerChange)
-        ensures after { ⟦<Self as Meaning>⟧.state self.new ≡ applied (items_of self.old) (⟦<Self as Meaning>⟧.state self.old) change.now.layers (changes_by (items_of self.old) change.now.items.slots) }
+    fn apply(&mut self, layers: Layers, items: &ItemChanges)
+        ensures after { ⟦<Self as Meaning>⟧.state self.new ≡ applied (items_of self.old) (⟦<Self as Meaning>⟧.state self.old) layers (changes_by (items_of self.old) items.now.slots) }
         ensures kept { Kept self.old self.new }
     {
-        let LayerChange { layers, items } = change;
         let catalogue = &self.layers.lower.catalogue;
         apply_if(layers.ram, catalogue, items, &mut self.ram);
         apply_if(layers.bbr, catalogue, items, &mut self.layers.upper.upper);
@@ -47,14 +46,23 @@ impl<B: Store, F: Store, R: Rule> Receiver<B, F, R> {
         self.transaction = None;
     }
 
+    // Keeps a transaction open, with these changes queued.
+    fn keep_open(&mut self, transaction: Transaction, items: &ItemChanges)
+        ensures after { ⟦<Self as Meaning>⟧.state self.new ≡ with_transaction (⟦<Self as Meaning>⟧.state self.old) (Some (opened_of (items_of self.old) items.now.slots transaction)) }
+        ensures kept { Kept self.old self.new }
+    {
+        self.queue = *items;
+        self.transaction = Some(transaction);
+    }
+
     // What a granted set or delete is to do.
-    fn carry_out(&mut self, plan: Plan)
-        ensures after { ⟦<Self as Meaning>⟧.state self.new ≡ after_plan (items_of self.old) (⟦<Self as Meaning>⟧.state self.old) plan }
+    fn carry_out(&mut self, plan: Plan, items: &ItemChanges)
+        ensures after { ⟦<Self as Meaning>⟧.state self.new ≡ after_plan (items_of self.old) (⟦<Self as Meaning>⟧.state self.old) items.now.slots plan }
         ensures kept { Kept self.old self.new }
     {
         match plan {
-            Plan::Apply(change) => self.apply(&change),
-            Plan::Queue(transaction) => self.transaction = Some(transaction),
+            Plan::Apply(layers) => self.apply(layers, items),
+            Plan::Queue(transaction) => self.keep_open(transaction, items),
         }
     }
 
@@ -63,18 +71,22 @@ impl<B: Store, F: Store, R: Rule> Receiver<B, F, R> {
         ensures after { ⟦<Self as Meaning>⟧.state self.new ≡ with_transaction (⟦<Self as Meaning>⟧.state self.old) (of_kind id (⟦<Self as Meaning>⟧.state self.old).transaction) }
         ensures kept { Kept self.old self.new }
     {
-        self.transaction = self.transaction.filter(|transaction| transaction.id == id);
+        if let Some(transaction) = &self.transaction
+            && transaction.id != id
+        {
+            self.transaction = None;
+        }
     }
 
     // What a granted frame comes to; answers how many bytes of a reply stand in the buffer.
-    fn grant(&mut self, granted: Granted) -> usize
+    fn grant(&mut self, granted: Granted, items: &ItemChanges) -> usize
         ensures value { result ≡ grant_length granted }
-        ensures after { ⟦<Self as Meaning>⟧.state self.new ≡ after_grant (items_of self.old) (⟦<Self as Meaning>⟧.state self.old) granted }
+        ensures after { ⟦<Self as Meaning>⟧.state self.new ≡ after_grant (items_of self.old) (⟦<Self as Meaning>⟧.state self.old) items.now.slots granted }
         ensures kept { Kept self.old self.new }
     {
         match granted {
             Granted::Change(plan) => {
-                self.carry_out(plan);
+                self.carry_out(plan, items);
                 0
             }
             Granted::Reply(length) => length,
@@ -87,17 +99,18 @@ impl<B: Store, F: Store, R: Rule> Receiver<B, F, R> {
         &mut self,
         frame: HeldFrame,
         judged: Result<Granted, Refusal>,
+        items: &ItemChanges,
         out: &mut [u8; ANSWER_ROOM],
     ) -> Telling
         requires few { reply_length judged ≤ 780 }
         ensures value { result ≡ told_by frame judged }
         ensures out { out.new ≡ patched (reply_length judged) (frame_bytes (verdict_on (verdict_id judged) frame.id)) out.old }
-        ensures after { ⟦<Self as Meaning>⟧.state self.new ≡ after_verdict (items_of self.old) (⟦<Self as Meaning>⟧.state self.old) judged }
+        ensures after { ⟦<Self as Meaning>⟧.state self.new ≡ after_verdict (items_of self.old) (⟦<Self as Meaning>⟧.state self.old) items.now.slots judged }
         ensures kept { Kept self.old self.new }
     {
         match judged {
             Ok(granted) => {
-                let place = self.grant(granted);
+                let place = self.grant(granted, items);
                 let length = place + write_verdict(&mut out[place..], Sign::Ack, frame.id);
                 frame.told(Verdict::Ack, length)
             }

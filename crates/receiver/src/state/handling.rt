@@ -18,7 +18,7 @@ use crate::transaction::Granted;
 use frame::HEADER;
 use layer::Store;
 use reference::{Answered, CallFault, Refusal, Telling, Verdict};
-use request::{CONFIGURATION_CLASS, Request};
+use request::{CONFIGURATION_CLASS, ItemChanges, Request};
 use rule::Rule;
 
 // The least room for an answer: the largest reply, and the verdict behind it.
@@ -26,17 +26,22 @@ pub const ANSWER_ROOM: usize = 790;
 
 impl<B: Store, F: Store, R: Rule> Receiver<B, F, R> {
     // Judges a request that is held.
-    fn judge_held(&self, frame: HeldFrame, out: &mut [u8; ANSWER_ROOM]) -> Result<Granted, Refusal>
+    fn judge_held(
+        &self,
+        frame: HeldFrame,
+        items: &mut ItemChanges,
+        out: &mut [u8; ANSWER_ROOM],
+    ) -> Result<Granted, Refusal>
         requires class { frame.class ≡ configuration_class }
         requires fits { end_of frame ≤ length (bytes_held self.now.held) }
-        ensures { Judged (items_of self.now) out.old out.new (judged (items_of self.now) (R.Rule.finding self.now.rule) (⟦<Self as Meaning>⟧.state self.now) (message_in (bytes_held self.now.held) frame)) result }
+        ensures { Judged (items_of self.now) items.new.slots out.old out.new (judged (items_of self.now) (R.Rule.finding self.now.rule) (⟦<Self as Meaning>⟧.state self.now) (message_in (bytes_held self.now.held) frame)) result }
     {
         let start = frame.noise + HEADER;
         let request = Request {
             id: frame.id,
             payload: &self.held.as_slice()[start..start + frame.length],
         };
-        self.judge(&request, out)
+        self.judge(&request, items, out)
     }
 
     // Handles a frame that is held: one of the configuration class is judged and carried out. Then it is dropped.
@@ -50,8 +55,9 @@ impl<B: Store, F: Store, R: Rule> Receiver<B, F, R> {
             return frame.told(Verdict::Outside, 0);
         }
         self.cancel_other_kind(frame.id);
-        let judged = self.judge_held(frame, out);
-        let telling = self.conclude(frame, judged, out);
+        let mut items = ItemChanges::none();
+        let judged = self.judge_held(frame, &mut items, out);
+        let telling = self.conclude(frame, judged, &items, out);
         self.held.skip(frame.end());
         telling
     }
@@ -80,7 +86,7 @@ impl<B: Store, F: Store, R: Rule> Receiver<B, F, R> {
     fn first(&self) -> Result<HeldFrame, usize>
         ensures { FirstIs (bytes_held self.now.held) result }
     {
-        HeldFrame::first_in(self.held.as_slice())
+        HeldFrame::first_in(&self.held)
     }
 
     // Answers the first frame that is held, if it is whole: what it was, its verdict, and how many bytes were written at the start of the buffer.

@@ -1,9 +1,9 @@
 // Judging a frame of the configuration class. Nothing is changed here but the buffer, into which a reply is written; what is to be done
-// comes back as a plan.
+// comes back as a plan, with its changes beside it.
 ghost use Rattle.std.specs.Prelude.{◌≡◌, ◌≤◌, ◌||◌, length, if◌then◌else◌, ◌==◌, nat_eq};
 ghost use Rattle.request.specs.Changes.{changes_by};
 ghost use Rattle.request.specs.Actions.{action_number};
-ghost use Rattle.request.specs.Reading.{changes_of};
+ghost use Rattle.request.specs.Reading.{read_as};
 ghost use Rattle.request.specs.Head.{opened_layers};
 ghost use Rattle.reference.specs.Requests.{valset, valget, valdel, and_later};
 ghost use Rattle.reference.specs.Receiver.{apply_fault, applying, queue_of, planned, judged_change, judged_get, judged};
@@ -14,7 +14,7 @@ ghost use Rattle.receiver.specs.Plans.{request_message, changes_for, judgement_o
 use super::Receiver;
 use super::handling::ANSWER_ROOM;
 use super::meaning::Meaning;
-use crate::transaction::{Granted, LayerChange, Plan, Transaction};
+use crate::transaction::{Granted, Plan, Transaction};
 use configuration::{apply_changes, fault_in};
 use layer::Store;
 use reference::{Layers, Refusal};
@@ -32,12 +32,12 @@ fn is_request(id: u8) -> bool
 impl<B: Store, F: Store, R: Rule> Receiver<B, F, R> {
     // The item at fault in the RAM that applying would leave. It is tried on a copy.
     #[tactic(auto, using(crate::proofs::Planning::by_fault))]
-    fn fault_of(&self, change: &LayerChange) -> Option<usize>
-        ensures { result ≡ apply_fault (items_of self.now) (R.Rule.finding self.now.rule) (⟦<Self as Meaning>⟧.state self.now) change.now.layers (changes_by (items_of self.now) change.now.items.slots) }
+    fn fault_of(&self, layers: Layers, items: &ItemChanges) -> Option<usize>
+        ensures { result ≡ apply_fault (items_of self.now) (R.Rule.finding self.now.rule) (⟦<Self as Meaning>⟧.state self.now) layers (changes_by (items_of self.now) items.now.slots) }
     {
-        if change.layers.ram {
+        if layers.ram {
             let mut ram = self.ram.copied();
-            apply_changes(&self.layers.lower.catalogue, &change.items, &mut ram);
+            apply_changes(&self.layers.lower.catalogue, items, &mut ram);
             fault_in(&self.layers.lower.catalogue, &ram, &self.rule)
         } else {
             None
@@ -45,92 +45,108 @@ impl<B: Store, F: Store, R: Rule> Receiver<B, F, R> {
     }
 
     // Applying, where RAM would stay fit.
-    fn plan_to_apply(&self, change: LayerChange) -> Result<Plan, Refusal>
-        ensures { judgement_of (items_of self.now) result ≡ applying (apply_fault (items_of self.now) (R.Rule.finding self.now.rule) (⟦<Self as Meaning>⟧.state self.now) change.layers (changes_by (items_of self.now) change.items.slots)) change.layers (changes_by (items_of self.now) change.items.slots) }
+    fn plan_to_apply(&self, layers: Layers, items: &ItemChanges) -> Result<Plan, Refusal>
+        ensures { judgement_of (items_of self.now) items.now.slots result ≡ applying (apply_fault (items_of self.now) (R.Rule.finding self.now.rule) (⟦<Self as Meaning>⟧.state self.now) layers (changes_by (items_of self.now) items.now.slots)) layers (changes_by (items_of self.now) items.now.slots) }
     {
-        if let Some(item) = self.fault_of(&change) {
+        if let Some(item) = self.fault_of(layers, items) {
             return Err(Refusal::Unfit(item));
         }
-        Ok(Plan::Apply(change))
+        Ok(Plan::Apply(layers))
     }
 
     // What is queued; nothing where no transaction is open.
     #[tactic(auto, using(crate::proofs::Planning::none_queued))]
-    fn queue(&self) -> ItemChanges
-        ensures { changes_by (items_of self.now) result.slots ≡ queue_of (option_map (opened_of (items_of self.now)) self.now.transaction) }
+    fn queued(&self) -> ItemChanges
+        ensures { changes_by (items_of self.now) result.slots ≡ queue_of (option_map (opened_of (items_of self.now) self.now.queue.slots) self.now.transaction) }
     {
-        self.transaction
-            .map_or(ItemChanges::none(), |transaction| transaction.queue.items)
+        match self.transaction {
+            Some(_) => self.queue,
+            None => ItemChanges::none(),
+        }
     }
 
     // What is queued, with more behind it.
     fn queue_with(&self, changes: &ItemChanges) -> ItemChanges
-        ensures { changes_by (items_of self.now) result.slots ≡ and_later (queue_of (option_map (opened_of (items_of self.now)) self.now.transaction)) (changes_by (items_of self.now) changes.now.slots) }
+        ensures { changes_by (items_of self.now) result.slots ≡ and_later (queue_of (option_map (opened_of (items_of self.now) self.now.queue.slots) self.now.transaction)) (changes_by (items_of self.now) changes.now.slots) }
     {
-        let queue = self.queue();
-        queue.and_later(changes)
+        self.queued().and_later(changes)
     }
 
     // The changes that an action is about: those of its frame, behind those queued where it adds. Closing does not read its own.
-    fn changes_for(&self, request: &Request<'_>, action: Action) -> Result<ItemChanges, Refusal>
-        ensures { changes_of (items_of self.now) result ≡ changes_for (items_of self.now) (queue_of (option_map (opened_of (items_of self.now)) self.now.transaction)) (request_message request.now) action }
+    fn changes_for(
+        &self,
+        request: &Request<'_>,
+        action: Action,
+        items: &mut ItemChanges,
+    ) -> Result<(), Refusal>
+        ensures { read_as (items_of self.now) items.new.slots result ≡ changes_for (items_of self.now) (queue_of (option_map (opened_of (items_of self.now) self.now.queue.slots) self.now.transaction)) (request_message request.now) action }
     {
         let catalogue = &self.layers.lower.catalogue;
         match action {
-            Action::Apply | Action::Open => request.read_data(catalogue),
+            Action::Apply | Action::Open => request.read_data(catalogue, items),
             Action::Add => {
-                let items = request.read_data(catalogue)?;
-                Ok(self.queue_with(&items))
+                request.read_data(catalogue, items)?;
+                *items = self.queue_with(items);
+                Ok(())
             }
-            Action::Close => Ok(self.queue()),
+            Action::Close => {
+                *items = self.queued();
+                Ok(())
+            }
         }
     }
 
     // What an action does with the changes that it is about: they are applied, or queued.
-    fn plan(&self, request: &Request<'_>, layers: Layers, action: Action) -> Result<Plan, Refusal>
-        ensures { judgement_of (items_of self.now) result ≡ planned (items_of self.now) (R.Rule.finding self.now.rule) (⟦<Self as Meaning>⟧.state self.now) (request_message request.now) layers (action_number action) }
+    fn plan(
+        &self,
+        request: &Request<'_>,
+        layers: Layers,
+        action: Action,
+        items: &mut ItemChanges,
+    ) -> Result<Plan, Refusal>
+        ensures { judgement_of (items_of self.now) items.new.slots result ≡ planned (items_of self.now) (R.Rule.finding self.now.rule) (⟦<Self as Meaning>⟧.state self.now) (request_message request.now) layers (action_number action) }
     {
-        let items = self.changes_for(request, action)?;
-        let change = LayerChange { layers, items };
+        self.changes_for(request, action, items)?;
         match action {
-            Action::Apply | Action::Close => self.plan_to_apply(change),
+            Action::Apply | Action::Close => self.plan_to_apply(layers, items),
             Action::Open | Action::Add => Ok(Plan::Queue(Transaction {
                 id: request.id,
-                queue: change,
+                layers,
             })),
         }
     }
 
     // A set or a delete.
-    fn judge_change(&self, request: &Request<'_>) -> Result<Plan, Refusal>
-        ensures { judgement_of (items_of self.now) result ≡ judged_change (items_of self.now) (R.Rule.finding self.now.rule) (⟦<Self as Meaning>⟧.state self.now) (request_message request.now) }
+    fn judge_change(&self, request: &Request<'_>, items: &mut ItemChanges) -> Result<Plan, Refusal>
+        ensures { judgement_of (items_of self.now) items.new.slots result ≡ judged_change (items_of self.now) (R.Rule.finding self.now.rule) (⟦<Self as Meaning>⟧.state self.now) (request_message request.now) }
     {
         let usable = self.layers.upper.lower.is_usable();
         request.check_head(usable, self.opened_layers())?;
-        self.plan(request, request.layers(), request.action())
+        self.plan(request, request.layers(), request.action(), items)
     }
 
     // The layers that the open transaction was opened for.
     fn opened_layers(&self) -> Option<Layers>
-        ensures { result ≡ opened_layers (option_map (opened_of (items_of self.now)) self.now.transaction) }
+        ensures { result ≡ opened_layers (option_map (opened_of (items_of self.now) self.now.queue.slots) self.now.transaction) }
     {
-        self.transaction.map(|transaction| transaction.queue.layers)
+        self.transaction.map(|transaction| transaction.layers)
     }
 
     // A set, a delete or a get whose payload has a head.
     fn judge_request(
         &self,
         request: &Request<'_>,
+        items: &mut ItemChanges,
         out: &mut [u8; ANSWER_ROOM],
     ) -> Result<Granted, Refusal>
         requires long { 4 ≤ length request.now.payload.now }
-        ensures { Judged (items_of self.now) out.old out.new (if nat_eq request.now.id valget then judged_get (items_of self.now) (⟦<Self as Meaning>⟧.state self.now) (request_message request.now) else judged_change (items_of self.now) (R.Rule.finding self.now.rule) (⟦<Self as Meaning>⟧.state self.now) (request_message request.now)) result }
+        ensures { Judged (items_of self.now) items.new.slots out.old out.new (if nat_eq request.now.id valget then judged_get (items_of self.now) (⟦<Self as Meaning>⟧.state self.now) (request_message request.now) else judged_change (items_of self.now) (R.Rule.finding self.now.rule) (⟦<Self as Meaning>⟧.state self.now) (request_message request.now)) result }
     {
         if request.id == VALGET {
             let length = self.judge_get(request.payload, out)?;
             Ok(Granted::Reply(length))
         } else {
-            let plan = self.judge_change(request)?;
+            let plan = self.judge_change(request, items)?;
             Ok(Granted::Change(plan))
         }
     }
@@ -139,9 +155,10 @@ impl<B: Store, F: Store, R: Rule> Receiver<B, F, R> {
     pub(crate) fn judge(
         &self,
         request: &Request<'_>,
+        items: &mut ItemChanges,
         out: &mut [u8; ANSWER_ROOM],
     ) -> Result<Granted, Refusal>
-        ensures { Judged (items_of self.now) out.old out.new (judged (items_of self.now) (R.Rule.finding self.now.rule) (⟦<Self as Meaning>⟧.state self.now) (request_message request.now)) result }
+        ensures { Judged (items_of self.now) items.new.slots out.old out.new (judged (items_of self.now) (R.Rule.finding self.now.rule) (⟦<Self as Meaning>⟧.state self.now) (request_message request.now)) result }
     {
         if !is_request(request.id) {
             return Err(Refusal::OtherId);
@@ -149,6 +166,6 @@ impl<B: Store, F: Store, R: Rule> Receiver<B, F, R> {
         if request.payload.len() < HEAD {
             return Err(Refusal::ShortPayload);
         }
-        self.judge_request(request, out)
+        self.judge_request(request, items, out)
     }
 }

@@ -14,6 +14,7 @@ use catalogue::Entry;
 use configuration::{Pile, StoreMeaning, check, stack_ram};
 use held::Held;
 use layer::{Stack, Store};
+use request::ItemChanges;
 use rule::Rule;
 use store::{Defaults, SlotTable};
 
@@ -61,6 +62,7 @@ impl<B: Store, F: Store, R: Rule> Receiver<B, F, R> {
             rule,
             ram,
             transaction: None,
+            queue: ItemChanges::none(),
         }
     }
 

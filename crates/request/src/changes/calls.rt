@@ -15,6 +15,13 @@ impl ItemChanges {
         ItemChanges { slots: [None; 128] }
     }
 
+    // No item changes any more.
+    pub fn forget(&mut self)
+        ensures { self.new.slots ≡ replicate 128 None }
+    {
+        self.slots = [None; 128];
+    }
+
     // What becomes of an item; nothing of one beyond the 128th.
     pub fn at(&self, item: usize) -> Option<Change>
         ensures { result ≡ slice_index_or self.now.slots item None }

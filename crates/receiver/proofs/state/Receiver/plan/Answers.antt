@@ -4,5 +4,5 @@ use Rattle.receiver.proofs.state.Receiver.plan.Goals as goal
 
 pub returns-in-Apply : goal.returns-in-Apply
 returns-in-Apply g c =
-    let told = c.in_ok-items.ensures in
+    let told = c.in_ok-changes_for.ensures in
     search (rules, plan_applied)

@@ -1,4 +1,6 @@
 use Rattle.std.proofs.Common.{sym, ◌∙◌}
+use Rattle.catalogue.specs.Owned.{entries_of}
+use Rattle.catalogue.proofs.Catalogues.{checked_listed}
 use Rattle.request.proofs.Faults.{faulted}
 use Rattle.request.proofs.Pairs.{pair_cut, pair_unknown, pair_taken}
 use Rattle.request.proofs.changes.ItemChanges.take_pair.Goals as goal
@@ -13,11 +15,12 @@ returns-in_err-item c =
     let none = c.in_err-item.ensures in
     let pair = c.in_ok-pair.ensures in
     rw (faulted _ _ _ _ c.from_residual-in_err-item.ensures.1 none.value none.ok_part)
-    (pair_unknown _ _ _ _ _ (sym pair.ok_part ∙ c.read_pair.ensures) (rw (c.entries.ensures.value, none.ok_part) at c.find_item.ensures))
+    (pair_unknown _ _ _ _ _ (sym pair.ok_part ∙ c.read_pair.ensures) (rw none.ok_part at c.find.ensures))
 
 pub returns : goal.returns
 returns c =
     let pair = c.in_ok-pair.ensures in
     let some = c.in_ok-item.ensures in
-    pair_taken _ _ _ _ _ _ (sym pair.ok_part ∙ c.read_pair.ensures) (rw (c.entries.ensures.value, some.ok_part) at c.find_item.ensures)
-    (rw c.entries.ensures.value at c.entries.ensures.listed) (rw c.entries.ensures.value at c.entries.ensures.few) c.args.self.now.whole c.set.ensures
+    let catalogue = c.args.catalogue.now in
+    pair_taken _ _ _ _ _ _ (sym pair.ok_part ∙ c.read_pair.ensures) (rw some.ok_part at c.find.ensures) (checked_listed (entries_of catalogue) catalogue.checked) catalogue.few
+    c.args.self.now.whole c.set.ensures

@@ -2,7 +2,7 @@ use Rattle.std.proofs.Common.{◌≡◌, ◌≢◌, ◌+◌, ◌-◌, rules, ari
 use Rattle.std.proofs.lemmas.Result.{err_from_is_err_and}
 use Rattle.request.proofs.Faults.{taken_is, refused_is}
 use Rattle.request.proofs.Walks.{data_more, data_fault}
-use Rattle.request.proofs.head.Request.read_data.Goals as goal
+use Rattle.request.proofs.head.Request.take_entries.Goals as goal
 
 pub returns-in_err-place : goal.returns-in_err-place
 returns-in_err-place c =
