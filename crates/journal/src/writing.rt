@@ -13,13 +13,13 @@ use layer::Layer;
 use store::SlotTable;
 
 // Writes a record over the words from a place on; answers the place behind it.
-fn write_words(words: &mut [u32], place: usize, record: &[u32]) -> usize
-    requires { place + length record.now ≤ length words.old }
-    ensures place { result ≡ place + length record.now }
-    ensures words { words.new ≡ patched place record.now words.old }
+fn write_words(words: &mut [u32], place: usize, part: &[u32]) -> usize
+    requires { place + length part.now ≤ length words.old }
+    ensures place { result ≡ place + length part.now }
+    ensures words { words.new ≡ patched place part.now words.old }
 {
-    let end = place + record.len();
-    words[place..end].copy_from_slice(record);
+    let end = place + part.len();
+    words[place..end].copy_from_slice(part);
     end
 }
 
@@ -42,13 +42,13 @@ fn write_others(words: &mut [u32], held: &SlotTable, except: u32) -> usize
 }
 
 // Writes the settings of a table anew, but for one key's, then what is to stand behind them, then blanks; answers how many words are used.
-fn rewrite(words: &mut [u32], held: &SlotTable, record: &Record<'_>) -> usize
-    requires { length (records_of (without record.now.key (settings_of held.now.slots))) + length record.now.lasting.now ≤ length words.old }
-    ensures used { result ≡ length (records_of (without record.now.key (settings_of held.now.slots)) ++ record.now.lasting.now) }
-    ensures words { words.new ≡ filled (length words.old) (records_of (without record.now.key (settings_of held.now.slots)) ++ record.now.lasting.now) }
+fn rewrite(words: &mut [u32], held: &SlotTable, change: &Record<'_>) -> usize
+    requires { length (records_of (without change.now.key (settings_of held.now.slots))) + length change.now.lasting.now ≤ length words.old }
+    ensures used { result ≡ length (records_of (without change.now.key (settings_of held.now.slots)) ++ change.now.lasting.now) }
+    ensures words { words.new ≡ filled (length words.old) (records_of (without change.now.key (settings_of held.now.slots)) ++ change.now.lasting.now) }
 {
-    let place = write_others(words, held, record.key);
-    let used = write_words(words, place, record.lasting);
+    let place = write_others(words, held, change.key);
+    let used = write_words(words, place, change.lasting);
     words[used..].fill(BLANK);
     used
 }
@@ -56,17 +56,17 @@ fn rewrite(words: &mut [u32], held: &SlotTable, record: &Record<'_>) -> usize
 // Writes a change, after which the table says what is held: behind the used words where it fits, exactly too; else all anew. Answers how many words
 // are used.
 #[tactic(auto, using(crate::proofs::Buffers::used_le))]
-fn change_words(words: &mut [u32], used: usize, held: &SlotTable, record: &Record<'_>) -> usize
-    requires { Change words.old used (settings_of held.now.slots) record.now.key record.now.words.now record.now.lasting.now }
-    ensures words { words.new ≡ recorded record.now.words.now (without record.now.key (settings_of held.now.slots)) record.now.lasting.now words.old }
+fn change_words(words: &mut [u32], used: usize, held: &SlotTable, change: &Record<'_>) -> usize
+    requires { Change words.old used (settings_of held.now.slots) change.now.key change.now.words.now change.now.lasting.now }
+    ensures words { words.new ≡ recorded change.now.words.now (without change.now.key (settings_of held.now.slots)) change.now.lasting.now words.old }
     ensures written { Written words.new (settings_of held.now.slots) result }
-    ensures most { result ≤ used + length record.now.words.now }
+    ensures most { result ≤ used + length change.now.words.now }
 {
     let room = words.len() - used;
-    if record.words.len() <= room {
-        write_words(words, used, record.words)
+    if change.words.len() <= room {
+        write_words(words, used, change.words)
     } else {
-        rewrite(words, held, record)
+        rewrite(words, held, change)
     }
 }
 
@@ -75,14 +75,14 @@ pub(crate) fn write_change(
     words: &mut Vec<u32>,
     used: usize,
     held: &SlotTable,
-    record: &Record<'_>,
+    change: &Record<'_>,
 ) -> usize
-    requires { Change words.old.items used (settings_of held.now.slots) record.now.key record.now.words.now record.now.lasting.now }
-    ensures words { words.new.items ≡ recorded record.now.words.now (without record.now.key (settings_of held.now.slots)) record.now.lasting.now words.old.items }
+    requires { Change words.old.items used (settings_of held.now.slots) change.now.key change.now.words.now change.now.lasting.now }
+    ensures words { words.new.items ≡ recorded change.now.words.now (without change.now.key (settings_of held.now.slots)) change.now.lasting.now words.old.items }
     ensures written { Written words.new.items (settings_of held.now.slots) result }
-    ensures most { result ≤ used + length record.now.words.now }
+    ensures most { result ≤ used + length change.now.words.now }
 {
-    change_words(words.as_mut_slice(), used, held, record)
+    change_words(words.as_mut_slice(), used, held, change)
 }
 
 // Makes every word of an accepted buffer blank.

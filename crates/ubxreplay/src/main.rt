@@ -5,13 +5,13 @@
 
 mod answers;
 mod help;
-mod host;
+mod office;
 mod reading;
 mod said;
 mod seen;
 mod session;
 
-use crate::host::Host;
+use crate::office::Host;
 use anyhow::anyhow;
 use help::HELP;
 use options::{Input, run};

@@ -1,5 +1,5 @@
 // Lines whose answers hang on no call of a receiver.
-use crate::host::HostLine;
+use crate::office::HostLine;
 use crate::reading::ReadLine;
 use journal::JournalFault;
 use script::LineFault;

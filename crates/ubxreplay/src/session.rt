@@ -1,6 +1,6 @@
 // What a script has come to: the set-up of a receiver and, behind its make, the lines that are answered when all of them are read.
 use crate::answers::{EventLine, MakeLine, WordsLine, WriteLine};
-use crate::host::Host;
+use crate::office::Host;
 use crate::said::{ErrorLine, Said};
 use crate::seen::{SeenWords, Wanted};
 use anyhow::Context;
