@@ -16,7 +16,7 @@ pub enum Place {
 }
 
 // An empty table of slots, nothing at all, or a journal on these words.
-#[derive(Drop)]
+#[derive(Drop, PartialEq, Eq, Debug)]
 pub enum Medium {
     Slots,
     Absent,
@@ -24,7 +24,7 @@ pub enum Medium {
 }
 
 // What stands at a place: a medium, bare or under a saver.
-#[derive(Drop)]
+#[derive(Drop, PartialEq, Eq, Debug)]
 pub enum Choice {
     Bare(Medium),
     Saved(Medium),

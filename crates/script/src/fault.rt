@@ -15,8 +15,6 @@ pub enum LineFault {
     NoNumber(u64),
     // no decimal number
     NoCount,
-    // there is such a command, but not here yet
-    NotBuilt(&'static str),
     SetUpAfterMake,
     CallBeforeMake,
     NoMemory,
@@ -32,7 +30,6 @@ impl fmt::Display for LineFault {
             LineFault::NoWord => f.write_str("a word is a hexadecimal number up to ffffffff"),
             LineFault::NoNumber(most) => write!(f, "expected a decimal number up to {most}"),
             LineFault::NoCount => f.write_str("expected a decimal number"),
-            LineFault::NotBuilt(what) => write!(f, "{what} is not built yet"),
             LineFault::SetUpAfterMake => {
                 f.write_str("set-up ends with make; new begins another receiver")
             }

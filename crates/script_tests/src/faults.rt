@@ -81,17 +81,28 @@ fn wrong_numbers(rt: HostRuntime) -> Result<(), Fail> {
 }
 
 #[test]
-fn what_is_not_built(rt: HostRuntime) -> Result<(), Fail> {
+fn wrong_words_of_a_journal(rt: HostRuntime) -> Result<(), Fail> {
     let heap = rt.alloc();
+    says(&rt, heap, "inspect", "expected: inspect COUNT [WORD...]")?;
+    says(&rt, heap, "words ram", "expected: words bbr|flash")?;
     says(
         &rt,
         heap,
-        "flash saver journal 640",
-        "journal is not built yet",
+        "inspect 640 g",
+        "a word is a hexadecimal number up to ffffffff",
     )?;
-    says(&rt, heap, "words bbr", "words is not built yet")?;
-    says(&rt, heap, "inspect 640", "inspect is not built yet")?;
-    says(&rt, heap, "hosting", "there is no such command")
+    says(
+        &rt,
+        heap,
+        "inspect 1048577",
+        "expected a decimal number up to 1048576",
+    )?;
+    says(
+        &rt,
+        heap,
+        "flash saver journal",
+        "expected: bbr|flash [saver] slots|absent|journal COUNT [WORD...]",
+    )
 }
 
 #[test]

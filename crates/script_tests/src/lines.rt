@@ -48,7 +48,7 @@ fn named(heap: Global, line: &str) -> Option<(Place, Choice)> {
 }
 
 #[test]
-fn stores(rt: HostRuntime) {
+fn stores(rt: HostRuntime) -> Result<(), Fail> {
     let heap = rt.alloc();
     assert_eq!(rt;
         named(heap, "bbr slots"),
@@ -66,8 +66,22 @@ fn stores(rt: HostRuntime) {
         named(heap, "bbr saver absent"),
         Some((Place::Bbr, Choice::Saved(Medium::Absent)))
     );
+    let mut words = Vec::from_slice(heap, &[0x0025_1001, 0x4000_0042])?;
+    words.resize(640, 0xffff_ffff)?;
+    assert_eq!(rt;
+        named(heap, "flash saver journal 640 00251001 40000042"),
+        Some((Place::Flash, Choice::Saved(Medium::Words(words))))
+    );
+    assert_eq!(rt;
+        named(heap, "bbr journal 1 7 8"),
+        Some((
+            Place::Bbr,
+            Choice::Bare(Medium::Words(Vec::from_slice(heap, &[7])?))
+        ))
+    );
     assert_eq!(rt; named(heap, "bbr saver saver slots"), None);
     assert_eq!(rt; named(heap, "bbr slots 640"), None);
+    Ok(())
 }
 
 #[test]
