@@ -2,10 +2,9 @@
 use Rattle.std.proofs.Common.{◌≡◌, ℕ, ◌+◌, ◌<◌, ◌≤◌, min, Bool, true, false, cond, eqb, ltb, List, [], ◌∷◌, ◌++◌, map, reverse, length, get_or, take, drop, Some, None, Ok, Err, Option, Result, sym, refl, ap, ◌∙◌, subst, ap₂, arith}
 use Rattle.std.proofs.lemmas.Bool.{cond_both, cond-true}
 use Rattle.std.proofs.lemmas.Bool.Decides.{nat_tests}
-use Rattle.std.proofs.lemmas.List.{length-append, drop_more, drop_all, map_push, reverse-append}
+use Rattle.std.proofs.lemmas.List.{drop_more, drop_all, map_push, reverse-append}
 use Rattle.frame.specs.Frames.{Message}
 use Rattle.frame.specs.Scanning.{finding}
-use Rattle.frame.specs.Written.{in_front}
 use Rattle.rule.specs.Rules.{Finding}
 use Rattle.reference.specs.declared.refusal.Refusal.{Refusal}
 use Rattle.reference.specs.declared.fault.CallFault.{CallFault}
@@ -124,7 +123,7 @@ module _ (cat : Catalogue) (rule : Finding) where
 
 -- A shut receiver refuses every call, whatever its catalogue and rule
 
-shut_step : (cat : Catalogue) (rule : Finding) (s : State) (c : Asking) → s.shut ≡ true → step cat rule s c ≡ record { state = s; event = refused c Shut }
+pub shut_step : (cat : Catalogue) (rule : Finding) (s : State) (c : Asking) → s.shut ≡ true → step cat rule s c ≡ record { state = s; event = refused c Shut }
 unfolding step
 shut_step cat rule s c on = cond-true s.shut _ _ on
 

@@ -4,6 +4,7 @@ ghost use Rattle.reference.specs.Events.{asking_of, answer_into};
 ghost use Rattle.reference.specs.Receiver.{run_from};
 ghost use Rattle.receiver.specs.State.{items_of, Kept};
 ghost use Rattle.replay.specs.Logs.{event_of, run_of, LoggedAs, Replays};
+ghost use Rattle.replay.specs.Seen.{SeesFrom, SeesRun};
 
 use crate::event::{Answering, Event};
 use crate::unlogged::Unlogged;
@@ -79,13 +80,14 @@ impl<B: Store + Drop, F: Store + Drop, R: Rule + Drop> Replaying<B, F, R> {
     }
 
     // All calls, in their order.
-    #[tactic(auto, using(crate::proofs::Runs::run_more, crate::proofs::Runs::run_all))]
+    #[tactic(auto, using(crate::proofs::Runs::run_all))]
     fn log_all<'a, W: Watch<B, F, R>>(
         mut self,
         calls: &[Call<'a>],
         watch: &mut W,
     ) -> Result<Replayed<'a, B, F, R>, AllocError>
-        ensures { IfOk result (λ x. run_of x.log.items (⟦<Receiver<B, F, R> as Meaning>⟧.state x.receiver) ≡ run_from (items_of self.receiver) (R.Rule.finding self.receiver.rule) (record { state = ⟦<Receiver<B, F, R> as Meaning>⟧.state self.receiver; history = [] }) (map asking_of calls.now)) }
+        ensures log { IfOk result (λ x. run_of x.log.items (⟦<Receiver<B, F, R> as Meaning>⟧.state x.receiver) ≡ run_from (items_of self.receiver) (R.Rule.finding self.receiver.rule) (record { state = ⟦<Receiver<B, F, R> as Meaning>⟧.state self.receiver; history = [] }) (map asking_of calls.now)) }
+        ensures seen { IfOk result (λ _. SeesFrom W.Watch.saw (items_of self.receiver) (R.Rule.finding self.receiver.rule) (⟦<Receiver<B, F, R> as Meaning>⟧.state self.receiver) (map asking_of calls.now) watch.old watch.new) }
     {
         let mut log = Vec::new(self.heap);
         watch.see(&self.receiver)?;
@@ -121,7 +123,8 @@ pub fn replay_watched<'a, B: Store + Drop, F: Store + Drop, R: Rule + Drop, W: W
     calls: &[Call<'a>],
     watch: &mut W,
 ) -> Result<Replayed<'a, B, F, R>, AllocError>
-    ensures { IfOk result (λ x. Replays (⟦<Parts<B, F, R> as PartsMeaning>⟧.with parts entries.now) (map asking_of calls.now) x.log.items (⟦<Receiver<B, F, R> as Meaning>⟧.state x.receiver)) }
+    ensures log { IfOk result (λ x. Replays (⟦<Parts<B, F, R> as PartsMeaning>⟧.with parts entries.now) (map asking_of calls.now) x.log.items (⟦<Receiver<B, F, R> as Meaning>⟧.state x.receiver)) }
+    ensures seen { IfOk result (λ _. SeesRun W.Watch.saw (⟦<Parts<B, F, R> as PartsMeaning>⟧.with parts entries.now) (map asking_of calls.now) watch.old watch.new) }
 {
     let receiver = Receiver::make(entries, parts);
     Replaying { heap, receiver }.log_all(calls, watch)

@@ -56,3 +56,8 @@ pub record Begun (s : Setup) : Type 0 where
   pub bbr : any_kind s.bbr ≡ 0
   pub bbr_empty : any_settings s.bbr ≡ []
   pub flash : any_kind s.flash ≡ 1
+
+-- the entries and the needs are as they were
+pub record SameParts (before after : Setup) : Type 0 where
+  pub entries : after.entries ≡ before.entries
+  pub needs : after.needs ≡ before.needs

@@ -4,7 +4,7 @@ ghost use Rattle.layer.specs.Stores.{put_answer, remove_answer, clear_answer, af
 ghost use Rattle.any_store.specs.Any.{any_settings, any_usable, any_kind, any_words};
 ghost use Rattle.std.specs.Borrow.{sem};
 ghost use Rattle.script.specs.Lending.{LendsStore};
-ghost use Rattle.script.specs.Setups.{kind_of, settings_in, words_of, store_at, other_place, Begun};
+ghost use Rattle.script.specs.Setups.{kind_of, settings_in, words_of, store_at, other_place, Begun, SameParts};
 
 use crate::command::{Choice, Medium, Place};
 use any_store::AnyStore;
@@ -92,6 +92,7 @@ impl Setup {
         ensures settings { any_settings (store_at place self.new) ≡ settings_in choice }
         ensures words { any_words (store_at place self.new) ≡ words_of choice }
         ensures other { store_at (other_place place) self.new ≡ store_at (other_place place) self.old }
+        ensures parts { SameParts self.old self.new }
     {
         *self.store_mut(place) = chosen(choice);
     }
@@ -99,7 +100,9 @@ impl Setup {
     pub fn put(&mut self, place: Place, key: u32, value: u64) -> Result<(), StoreFault>
         ensures answer { result ≡ put_answer (any_usable (store_at place self.old)) key value (any_settings (store_at place self.old)) }
         ensures after { any_settings (store_at place self.new) ≡ after_put result key value (any_settings (store_at place self.old)) }
+        ensures kind { any_kind (store_at place self.new) ≡ any_kind (store_at place self.old) }
         ensures other { store_at (other_place place) self.new ≡ store_at (other_place place) self.old }
+        ensures parts { SameParts self.old self.new }
     {
         self.store_mut(place).put(key, value)
     }
@@ -107,7 +110,9 @@ impl Setup {
     pub fn remove(&mut self, place: Place, key: u32) -> Result<(), StoreFault>
         ensures answer { result ≡ remove_answer (any_usable (store_at place self.old)) key }
         ensures after { any_settings (store_at place self.new) ≡ after_remove result key (any_settings (store_at place self.old)) }
+        ensures kind { any_kind (store_at place self.new) ≡ any_kind (store_at place self.old) }
         ensures other { store_at (other_place place) self.new ≡ store_at (other_place place) self.old }
+        ensures parts { SameParts self.old self.new }
     {
         self.store_mut(place).remove(key)
     }
@@ -115,7 +120,9 @@ impl Setup {
     pub fn clear(&mut self, place: Place) -> Result<(), StoreFault>
         ensures answer { result ≡ clear_answer (any_usable (store_at place self.old)) }
         ensures after { any_settings (store_at place self.new) ≡ after_clear result (any_settings (store_at place self.old)) }
+        ensures kind { any_kind (store_at place self.new) ≡ any_kind (store_at place self.old) }
         ensures other { store_at (other_place place) self.new ≡ store_at (other_place place) self.old }
+        ensures parts { SameParts self.old self.new }
     {
         self.store_mut(place).clear()
     }

@@ -49,6 +49,9 @@ impl<'a> SeenWords<'a> {
 }
 
 impl<'a, R: Rule> Watch<AnyStore, AnyStore, R> for SeenWords<'a> {
+    // what it keeps is only printed
+    ghost saw = { λ before state after. Unit {0} };
+
     fn see(&mut self, receiver: &Receiver<AnyStore, AnyStore, R>) -> Result<(), AllocError> {
         for wanted in self.wanted.get(self.seen.len()..).unwrap_or(&[]) {
             if wanted.calls != self.calls {

@@ -1,9 +1,15 @@
 use Rattle.std.proofs.Common.{ap}
 use Rattle.std.proofs.lemmas.Result.{IfOk-weaker}
 use Rattle.replay.proofs.Runs.{replays}
+use Rattle.replay.proofs.Sights.{sees_run}
 use Rattle.replay.proofs.replaying.replay_watched.Goals as goal
 
-pub returns : goal.returns
-returns g c =
+pub returns-clause-log : goal.returns-clause-log
+returns-clause-log g c =
     let told = c.make-receiver.ensures in
-    IfOk-weaker c.log_all.result _ _ (λ x e. replays _ _ _ _ told.items (ap g.R.Rule.finding told.rule) _ told.state told.law _ _ e) c.log_all.ensures
+    IfOk-weaker c.log_all.result _ _ (λ x e. replays _ _ _ _ told.items (ap g.R.Rule.finding told.rule) _ told.state told.law _ _ e) c.log_all.ensures.log
+
+pub returns-clause-seen : goal.returns-clause-seen
+returns-clause-seen g c =
+    let told = c.make-receiver.ensures in
+    IfOk-weaker c.log_all.result _ _ (λ x e. sees_run g.W.Watch.saw _ _ _ _ told.items (ap g.R.Rule.finding told.rule) _ told.state _ _ e) c.log_all.ensures.seen

@@ -3,6 +3,8 @@ use Rattle.reference.specs.Events.{asking_of}
 use Rattle.reference.specs.Receiver.{run_from}
 use Rattle.receiver.specs.State.{items_of, state_of, Kept}
 use Rattle.replay.specs.Logs.{run_of}
+use Rattle.replay.specs.Seen.{SeesAfter}
+use Rattle.replay.proofs.Sights.{Goes}
 use Rattle.replay.proofs.replaying.Replaying.log_all.Given as goal
 
 abbrev pub invariant-loop-call : goal.invariant-loop-call
@@ -10,6 +12,9 @@ invariant-loop-call g l =
     let first = l.initial.self.receiver in
     let cat = items_of first in
     let rule = g.R.Rule.finding first.rule in
-    (run_from cat rule (run_of (vec_items l.log) (state_of g.B.Store.usable g.B.Layer.settings g.F.Store.usable g.F.Layer.settings l.self.receiver)) (map asking_of (drop l.call-index l.calls))
-    ≡ run_from cat rule (record { state = state_of g.B.Store.usable g.B.Layer.settings g.F.Store.usable g.F.Layer.settings first; history = [] }) (map asking_of l.calls))
+    let before = state_of g.B.Store.usable g.B.Layer.settings g.F.Store.usable g.F.Layer.settings first in
+    let now = state_of g.B.Store.usable g.B.Layer.settings g.F.Store.usable g.F.Layer.settings l.self.receiver in
+    (run_from cat rule (run_of (vec_items l.log) now) (map asking_of (drop l.call-index l.calls))
+    ≡ run_from cat rule (record { state = before; history = [] }) (map asking_of l.calls))
     × Kept first l.self.receiver
+    × Goes g.W.Watch.saw cat rule now (map asking_of (drop l.call-index l.calls)) l.watch (SeesAfter g.W.Watch.saw cat rule before (map asking_of l.calls) l.initial.watch)
