@@ -9,8 +9,12 @@ use Rattle.reference.specs.declared.refusal.Verdict.{Verdict}
 use Rattle.reference.specs.declared.refusal.Verdict.TheVariants.{Outside, Ack, Nak}
 use Rattle.reference.specs.declared.answered.Answered.{Answered}
 use Rattle.reference.specs.declared.answered.Telling.{Telling}
-use Rattle.reference.specs.Answers.{refusal_place, verdict_number, call_fault_number}
+use Rattle.reference.specs.Answers.{refusal_place, verdict_number, call_fault_number, parts_fault_number}
+use Rattle.reference.specs.declared.fault.PartsFault.{PartsFault}
+use Rattle.reference.specs.Parts.{Parts, parts_fault}
 use Rattle.reference.specs.Events.{Event, took, nothing_whole, told, looked, restarted, refused}
+use Rattle.embed.specs.declared.board.MakeFault.{MakeFault}
+use Rattle.embed.specs.declared.board.MakeFault.TheVariants.{NoMemory, Refused}
 use Rattle.embed.specs.declared.numbers.UbxEntry.{UbxEntry}
 use Rattle.embed.specs.declared.numbers.UbxNeed.{UbxNeed}
 use Rattle.embed.specs.declared.numbers.UbxTaken.{UbxTaken}
@@ -99,3 +103,16 @@ restarted_in (told noise c i v written) = fault_restarted None
 restarted_in (looked layer key value) = fault_restarted None
 restarted_in (restarted b fault) = fault_restarted fault
 restarted_in (refused call fault) = record { item = 0; unfit = false; refused = call_fault_number fault }
+
+-- why no board is made: 255 for want of memory
+abbrev pub make_number : MakeFault → ℕ
+make_number NoMemory = 255
+make_number (Refused f) = parts_fault_number f
+
+-- the number of what is wrong with the parts, 0 where nothing is
+abbrev pub number_of : Option PartsFault → ℕ
+number_of None = 0
+number_of (Some f) = parts_fault_number f
+
+abbrev pub made_number : Parts → ℕ
+made_number p = number_of (parts_fault p)

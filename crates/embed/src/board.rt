@@ -1,8 +1,12 @@
 // A board: a receiver that is made of numbers and answers in numbers.
-ghost use Rattle.std.specs.Prelude.{◌≡◌, length};
+ghost use Rattle.std.specs.Prelude.{◌≡◌, length, map, None, IfOk, MatchResult};
 ghost use Rattle.frame.specs.Written.{in_front};
 ghost use Rattle.reference.specs.Events.{take_piece, answer_into, look_at, restart_with, written_by};
-ghost use Rattle.embed.specs.Numbers.{taken_in, answered_in, looked_in, restarted_in, battery_of};
+ghost use Rattle.reference.specs.Parts.{parts_fault};
+ghost use Rattle.reference.specs.Receiver.{made};
+ghost use Rattle.embed.specs.declared.board.MakeFault.TheVariants.{NoMemory};
+ghost use Rattle.embed.specs.Numbers.{entry_of, need_of, taken_in, answered_in, looked_in, restarted_in, battery_of, make_number};
+ghost use Rattle.embed.specs.Made.{board_parts, words_store, IsRefused, CopiedTo, in_front_if_room};
 
 use crate::numbers::{UbxAnswered, UbxEntry, UbxLooked, UbxNeed, UbxRestarted, UbxTaken};
 use catalogue::Entry;
@@ -26,23 +30,53 @@ pub struct Board {
 #[derive(Clone, Copy, PartialEq, Eq, Debug)]
 pub enum MakeFault {
     NoMemory,
-    Parts(PartsFault),
+    Refused(PartsFault),
 }
 
 impl From<AllocError> for MakeFault {
-    fn from(_error: AllocError) -> MakeFault {
+    ghost from_gives = { λ _ fault. fault ≡ NoMemory };
+
+    fn from(_error: AllocError) -> MakeFault
+        ensures { result ≡ NoMemory }
+    {
         MakeFault::NoMemory
     }
 }
 
 impl MakeFault {
     // The refusal's number; 255 for want of memory.
-    pub fn number(self) -> u8 {
+    pub fn number(self) -> u8
+        ensures { result ≡ make_number self }
+    {
         match self {
             MakeFault::NoMemory => 255,
-            MakeFault::Parts(fault) => fault.number(),
+            MakeFault::Refused(fault) => fault.number(),
         }
     }
+}
+
+// The entries of a catalogue.
+fn catalogue_of(heap: Global, entries: &[UbxEntry]) -> Result<Vec<Entry>, AllocError>
+    ensures { IfOk result (λ v. v.items ≡ map entry_of entries.now) }
+{
+    entries.iter().map(|entry| entry.entry()).collect(heap)
+}
+
+fn needs_of(heap: Global, needs: &[UbxNeed]) -> Result<Vec<Need>, AllocError>
+    ensures { IfOk result (λ v. v.items ≡ map need_of needs.now) }
+{
+    needs.iter().map(|need| need.need()).collect(heap)
+}
+
+// Copies words to the start of a buffer, if it has room for them; answers how many there are.
+fn copy_to(words: &[u32], out: &mut [u32]) -> usize
+    ensures count { result ≡ length words.now }
+    ensures out { out.new ≡ in_front_if_room words.now out.old }
+{
+    if words.len() <= out.len() {
+        out[..words.len()].copy_from_slice(words);
+    }
+    words.len()
 }
 
 impl Board {
@@ -52,9 +86,11 @@ impl Board {
         entries: &[UbxEntry],
         needs: &[UbxNeed],
         words: &[u32],
-    ) -> Result<Board, MakeFault> {
-        let entries: Vec<Entry> = entries.iter().map(|entry| entry.entry()).collect(heap)?;
-        let needs: Vec<Need> = needs.iter().map(|need| need.need()).collect(heap)?;
+    ) -> Result<Board, MakeFault>
+        ensures { MatchResult result (λ b. (parts_fault (board_parts entries.now needs.now words.now) ≡ None) × (⟦<BoardReceiver as Meaning>⟧.state b.receiver ≡ made (board_parts entries.now needs.now words.now))) (λ f. IsRefused (board_parts entries.now needs.now words.now) f) }
+    {
+        let entries = catalogue_of(heap, entries)?;
+        let needs = needs_of(heap, needs)?;
         let bbr = SlotTable::new();
         let flash = Saver {
             store: Journal::open(Vec::from_slice(heap, words)?),
@@ -63,7 +99,7 @@ impl Board {
             first: Ranges,
             second: Needs::new(needs.as_slice()),
         };
-        check(entries.as_slice(), &bbr, &flash, &rule).map_err(|fault| MakeFault::Parts(fault))?;
+        check(entries.as_slice(), &bbr, &flash, &rule).map_err(|fault| MakeFault::Refused(fault))?;
         let parts = Parts { bbr, flash, rule };
         Ok(Board {
             receiver: Receiver::make(entries.as_slice(), parts),
@@ -136,8 +172,16 @@ impl Board {
 
     // The words of Flash.
     pub fn words(&self) -> &[u32]
-        ensures { result.now ≡ self.now.receiver.layers.upper.lower.store.words.items }
+        ensures { words_store result.now ≡ (⟦<BoardReceiver as Meaning>⟧.state self.now.receiver).flash }
     {
         self.receiver.flash().store.words()
+    }
+
+    // Copies the words of Flash to the start of a buffer, if it has room for them; answers how many there are.
+    #[tactic(auto, using(crate::proofs::Copies::copied_words))]
+    pub fn copy_words(&self, out: &mut [u32]) -> usize
+        ensures { CopiedTo (⟦<BoardReceiver as Meaning>⟧.state self.now.receiver).flash out.old out.new result }
+    {
+        copy_to(self.words(), out)
     }
 }

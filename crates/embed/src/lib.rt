@@ -15,6 +15,6 @@ mod numbers;
 mod parts;
 
 pub use board::{Board, MakeFault};
-pub use calls::{ubx_answer, ubx_end, ubx_look, ubx_make, ubx_restart, ubx_take};
+pub use calls::{ubx_answer, ubx_end, ubx_look, ubx_make, ubx_restart, ubx_take, ubx_words};
 pub use handle::Handle;
 pub use numbers::{UbxAnswered, UbxEntry, UbxLooked, UbxNeed, UbxRestarted, UbxTaken};
