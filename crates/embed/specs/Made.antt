@@ -1,5 +1,5 @@
 -- The parts of a receiver that is made of numbers, and why none is made.
-use Rattle.std.specs.Prelude.{◌≡◌, ℕ, if◌then◌else◌, nat_le, true, List, [], map, take, length, Some, None}
+use Rattle.std.specs.Prelude.{◌≡◌, ℕ, if◌then◌else◌, nat_le, true, List, [], map, take, length, Some}
 use Rattle.frame.specs.Written.{in_front}
 use Rattle.rule.specs.Rules.{both_find, ranges, first_broken}
 use Rattle.journal.specs.Inspecting.{held_in, is_accepted}

@@ -1,5 +1,5 @@
 -- What the numbers that cross to C say of the reference receiver.
-use Rattle.std.specs.Prelude.{ℕ, Bool, true, false, List, length, Some, None, Option}
+use Rattle.std.specs.Prelude.{ℕ, Bool, true, false, length, Some, None, Option, Ok, Err, Result}
 use Rattle.catalogue.specs.declared.entries.Entry.{Entry}
 use Rattle.catalogue.specs.Kinds.{kind_of}
 use Rattle.rule.specs.declared.need.Need.{Need}
@@ -12,6 +12,9 @@ use Rattle.reference.specs.declared.answered.Telling.{Telling}
 use Rattle.reference.specs.Answers.{refusal_place, verdict_number, call_fault_number, parts_fault_number}
 use Rattle.reference.specs.declared.fault.PartsFault.{PartsFault}
 use Rattle.reference.specs.Parts.{Parts, parts_fault}
+use Rattle.reference.specs.Stores.{Settings}
+use Rattle.journal.specs.declared.fault.JournalFault.{JournalFault}
+use Rattle.journal.specs.Faults.{fault_number, fault_word}
 use Rattle.reference.specs.Events.{Event, took, nothing_whole, told, looked, restarted, refused}
 use Rattle.embed.specs.declared.board.MakeFault.{MakeFault}
 use Rattle.embed.specs.declared.board.MakeFault.TheVariants.{NoMemory, Refused}
@@ -21,6 +24,7 @@ use Rattle.embed.specs.declared.numbers.UbxTaken.{UbxTaken}
 use Rattle.embed.specs.declared.numbers.UbxAnswered.{UbxAnswered}
 use Rattle.embed.specs.declared.numbers.UbxLooked.{UbxLooked}
 use Rattle.embed.specs.declared.numbers.UbxRestarted.{UbxRestarted}
+use Rattle.embed.specs.declared.numbers.UbxInspected.{UbxInspected}
 
 abbrev pub entry_of : UbxEntry → Entry
 entry_of e = record { key = e.key; kind = kind_of e.kind; default = e.default; low = e.low; high = e.high }
@@ -116,3 +120,8 @@ number_of (Some f) = parts_fault_number f
 
 abbrev pub made_number : Parts → ℕ
 made_number p = number_of (parts_fault p)
+
+-- the first wrong word of a buffer, by what inspection finds in it
+abbrev pub inspected_as : Result Settings JournalFault → UbxInspected
+inspected_as (Ok settings) = record { word = 0; refused = 0 }
+inspected_as (Err f) = record { word = fault_word f; refused = fault_number f }

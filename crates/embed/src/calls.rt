@@ -3,14 +3,18 @@
 // hand for each field; and no pointer is an answer, which exports may not give
 ghost use Rattle.std.specs.Prelude.{◌≡◌, ◌⊎◌, length};
 ghost use Rattle.frame.specs.Written.{in_front};
+ghost use Rattle.journal.specs.Inspecting.{inspected};
 ghost use Rattle.reference.specs.Events.{take_piece, answer_into, look_at, restart_with, written_by};
-ghost use Rattle.embed.specs.Numbers.{taken_in, answered_in, looked_in, restarted_in, battery_of, made_number};
+ghost use Rattle.embed.specs.Numbers.{taken_in, answered_in, looked_in, restarted_in, battery_of, made_number, inspected_as};
 ghost use Rattle.embed.specs.Made.{board_parts, CopiedTo};
 
 use crate::board::{Board, BoardReceiver};
 use crate::handle::Handle;
-use crate::numbers::{UbxAnswered, UbxEntry, UbxLooked, UbxNeed, UbxRestarted, UbxTaken};
+use crate::numbers::{
+    UbxAnswered, UbxEntry, UbxInspected, UbxLooked, UbxNeed, UbxRestarted, UbxTaken,
+};
 use crate::parts::Parts;
+use journal::inspect;
 use receiver::Meaning;
 use std::alloc::Global;
 
@@ -101,6 +105,24 @@ pub extern "C" fn ubx_words(handle: Handle, board: &mut *mut (), out: &mut [u32]
     let count = whole.copy_words(out);
     *board = address(whole);
     count
+}
+
+// Whether words may be a journal: the number of their refusal, and the first wrong word. Of words that are refused a receiver is made with an
+// unusable Flash.
+#[unsafe(no_mangle)]
+pub extern "C" fn ubx_inspect(words: &[u32]) -> UbxInspected
+    ensures { result ≡ inspected_as (inspected words.now) }
+{
+    match inspect(words) {
+        Ok(_) => UbxInspected {
+            word: 0,
+            refused: 0,
+        },
+        Err(fault) => UbxInspected {
+            word: fault.word(),
+            refused: fault.number(),
+        },
+    }
 }
 
 // Ends a receiver and frees its memory.

@@ -1,4 +1,4 @@
-// What C has of a board.
+// What C has of a board: its pointer, and with it the board itself. `Global` takes no bytes, so that in C a handle is one pointer.
 ghost use Rattle.std.specs.Prelude.{◌≡◌};
 ghost use Rattle.embed.specs.declared.board.Board.{Board};
 ghost use Rattle.embed.specs.Handles.{handle_owns, board_coded};
@@ -8,6 +8,7 @@ use crate::parts::Parts;
 use std::alloc::Global;
 use std::marker::Model;
 
+// kept: the pointer is one to nothing in particular, since no pointer to a struct that holds a Vec may cross to C
 #[repr(C)]
 pub struct Handle {
     ptr: *mut (),
@@ -30,6 +31,7 @@ impl Handle {
         }
     }
 
+    // The board, boxed again.
     pub fn into_box(self) -> Box<Board, Global>
         ensures { result.value ≡ self.board }
     {
@@ -38,6 +40,7 @@ impl Handle {
 }
 
 impl Parts<Board, Global> {
+    // The pointer alone; the board is let go of, and C has it.
     pub fn address(self) -> *mut ()
         ensures { result ≡ self.ptr }
     {

@@ -15,6 +15,10 @@ mod numbers;
 mod parts;
 
 pub use board::{Board, MakeFault};
-pub use calls::{ubx_answer, ubx_end, ubx_look, ubx_make, ubx_restart, ubx_take, ubx_words};
+pub use calls::{
+    ubx_answer, ubx_end, ubx_inspect, ubx_look, ubx_make, ubx_restart, ubx_take, ubx_words,
+};
 pub use handle::Handle;
-pub use numbers::{UbxAnswered, UbxEntry, UbxLooked, UbxNeed, UbxRestarted, UbxTaken};
+pub use numbers::{
+    UbxAnswered, UbxEntry, UbxInspected, UbxLooked, UbxNeed, UbxRestarted, UbxTaken,
+};

@@ -70,6 +70,14 @@ pub struct UbxRestarted {
     pub refused: u8,
 }
 
+#[repr(C)]
+#[derive(Clone, Copy)]
+pub struct UbxInspected {
+    // the place of the first wrong word
+    pub word: usize,
+    pub refused: u8,
+}
+
 impl UbxEntry {
     pub(crate) fn entry(self) -> Entry
         ensures { result ≡ entry_of self }
@@ -94,7 +102,6 @@ impl UbxNeed {
         }
     }
 }
-
 
 // How a verdict is told.
 fn told_number(verdict: Verdict) -> u8

@@ -1,4 +1,4 @@
-// A box as its pointer.
+// A box taken apart: its pointer and its allocator. It owns what the box owned. The proofs by hand follow those of the toolchain's crate `futures`.
 ghost use Rattle.std.specs.Prelude.{◌≡◌};
 ghost use Rattle.std.specs.Box.Ownership.{box_owns};
 
