@@ -1,6 +1,6 @@
 #!/usr/bin/env bash
-# Proves and builds the receiver for C (crates/embed), compiles examples/c/bench.c with the machine's C compiler ($CC or cc), and runs it. It exits with 1 if
-# anything is not proved, does not compile, or answers otherwise than wanted. In a clean clone the crates below are proved first: some minutes.
+# Proves and builds the receiver for C (crates/embed), compiles examples/c/bench.c and stack.c with the machine's C compiler ($CC or cc), and runs them. It exits
+# with 1 if anything is not proved, does not compile, or answers otherwise than wanted. In a clean clone the crates below are proved first: some minutes.
 set -euo pipefail
 root=$(cd "$(dirname "$0")/.." && pwd)
 cc=${CC:-cc}
@@ -27,4 +27,6 @@ for level in -O0 -O2; do
         "$root/examples/c/bench.c" "$root/crates/embed/out/libembed.a" "$heap/c/liblibc_c.a"
     "$work/bench"
 done
+"$cc" -std=c11 -O2 -Wall -Wextra -Werror -o "$work/stack" "$root/examples/c/stack.c" "$root/crates/embed/out/libembed.a" "$heap/c/liblibc_c.a"
+"$work/stack"
 echo "embed: a library of $(stat -c %s "$root/crates/embed/out/libembed.a") bytes"

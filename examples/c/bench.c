@@ -110,6 +110,19 @@ int main(void) {
     ubx_receiver receiver = {NULL};
     memset(words, 0xff, sizeof words);
 
+    printf("sizes: an entry %zu, a need %zu, taken %zu, answered %zu, looked %zu, restarted %zu, inspected %zu, a receiver %zu\n", sizeof(ubx_entry),
+           sizeof(ubx_need), sizeof(ubx_taken), sizeof(ubx_answered), sizeof(ubx_looked), sizeof(ubx_restarted), sizeof(ubx_inspected), sizeof(ubx_receiver));
+
+    /* words that are no journal: too few, and a part that stands alone */
+    check("inspecting blank words", ubx_inspect(words, UBX_MIN_WORDS).refused, 0);
+    check("inspecting too few words", ubx_inspect(words, UBX_MIN_WORDS - 1).refused, 22);
+    words[3] = 0x40000042;
+    ubx_inspected inspected = ubx_inspect(words, UBX_MIN_WORDS);
+    printf("inspect: refused %u at word %zu\n", inspected.refused, inspected.word);
+    check("inspecting a wrong word", inspected.refused, 23);
+    check("the wrong word", inspected.word, 3);
+    words[3] = 0xffffffff;
+
     /* catalogues that are refused make no receiver */
     check("making of no entries", ubx_make(entries, 0, needs, 1, words, UBX_MIN_WORDS, &receiver.board), 1);
     check("making of needs that the defaults break", ubx_make(entries, 7, (const ubx_need[]){{1, 0}}, 1, words, UBX_MIN_WORDS, &receiver.board), 7);

@@ -53,12 +53,21 @@ typedef struct {
     uint8_t refused;
 } ubx_restarted;
 
+typedef struct {
+    size_t word;
+    uint8_t refused;
+} ubx_inspected;
+
 enum { UBX_NO_MEMORY = 255, UBX_ANSWER_ROOM = 790, UBX_MIN_WORDS = 640, UBX_MAX_WORDS = 16384 };
 
 /* A receiver, made by `ubx_make` and ended by `ubx_end`. C keeps the pointer and reads nothing behind it. */
 typedef struct {
     void *board;
 } ubx_receiver;
+
+#ifdef __cplusplus
+extern "C" {
+#endif
 
 /* Of these the receiver goes in by value, and where its pointer stands beside it: it is put back there. The functions below that take a
    `ubx_receiver *` do that. */
@@ -68,7 +77,12 @@ ubx_answered ubx_answer(ubx_receiver receiver, void **board, uint8_t *buffer, si
 ubx_looked ubx_look(ubx_receiver receiver, void **board, uint8_t layer, uint32_t key);
 ubx_restarted ubx_restart(ubx_receiver receiver, void **board, bool battery_lost);
 size_t ubx_words(ubx_receiver receiver, void **board, uint32_t *words, size_t room);
+ubx_inspected ubx_inspect(const uint32_t *words, size_t word_count);
 void ubx_end(ubx_receiver receiver);
+
+#ifdef __cplusplus
+}
+#endif
 
 static inline ubx_taken ubx_receiver_take(ubx_receiver *receiver, const uint8_t *piece, size_t length) {
     return ubx_take(*receiver, &receiver->board, piece, length);
