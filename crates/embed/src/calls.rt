@@ -36,7 +36,8 @@ pub extern "C" fn ubx_make(
     words: &[u32],
     board: &mut *mut (),
 ) -> u8
-    ensures { (result ≡ 255) ⊎ (result ≡ made_number (board_parts entries.now needs.now words.now)) }
+    ensures value { (result ≡ 255) ⊎ (result ≡ made_number (board_parts entries.now needs.now words.now)) }
+    ensures place { (result ≡ 0) ⊎ (board.new ≡ board.old) }
 {
     let made = match Board::make(heap, entries, needs, words) {
         Ok(made) => made,
