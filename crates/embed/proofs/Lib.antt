@@ -1,0 +1,2 @@
+pub mod AsBox
+pub mod Copies
