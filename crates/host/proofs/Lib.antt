@@ -1,3 +1,4 @@
 pub mod Building
 pub mod Heard
 pub mod Reading
+pub mod Naming
