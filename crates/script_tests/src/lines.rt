@@ -1,5 +1,6 @@
 // Lines that are commands.
 use catalogue::Kind;
+use journal::{BLANK, MIN_WORDS};
 use reference::Battery;
 use script::{Choice, Command, Medium, OwnCall, Part, Place, read_line};
 use std::alloc::Global;
@@ -67,7 +68,7 @@ fn stores(rt: HostRuntime) -> Result<(), Fail> {
         Some((Place::Bbr, Choice::Saved(Medium::Absent)))
     );
     let mut words = Vec::from_slice(heap, &[0x0025_1001, 0x4000_0042])?;
-    words.resize(640, 0xffff_ffff)?;
+    words.resize(MIN_WORDS, BLANK)?;
     assert_eq!(rt;
         named(heap, "flash saver journal 640 00251001 40000042"),
         Some((Place::Flash, Choice::Saved(Medium::Words(words))))
