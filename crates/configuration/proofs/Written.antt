@@ -1,14 +1,16 @@
 -- Changes applied entry by entry: since keys ascend, the change under an entry's key is the slot at its place.
-use Rattle.std.proofs.Common.{◌≡◌, ℕ, ◌<◌, ◌≤◌, List, [], ◌∷◌, length, drop, Option, sym, refl, ap, ◌∙◌, arith}
+use Rattle.std.proofs.Common.{◌≡◌, ℕ, ◌+◌, ◌<◌, ◌≤◌, List, [], ◌∷◌, length, get_or, drop, None, Option, sym, refl, ap, ◌∙◌, arith}
 use Rattle.std.proofs.lemmas.Bool.Decides.{nat_tests}
-use Rattle.std.proofs.lemmas.List.{drop_all}
+use Rattle.std.proofs.lemmas.List.{drop_all, drop_more}
 use Rattle.catalogue.specs.declared.entries.Entry.{Entry}
-use Rattle.catalogue.specs.Catalogues.{Listed}
+use Rattle.catalogue.specs.Catalogues.{Listed, blank}
 use Rattle.reference.specs.Stores.{Store}
 use Rattle.reference.specs.Requests.{Changes}
 use Rattle.reference.specs.Receiver.{written_one, written}
 use Rattle.request.specs.declared.change.Change.{Change}
-use Rattle.request.specs.Changes.{change_of, changes_by}
+use Rattle.request.specs.declared.changes.Outcome.{Outcome}
+use Rattle.request.specs.Changes.{change_of, changes_by, slots_in}
+use Rattle.request.proofs.Slots.{slots_long}
 
 -- each entry's slot, in their order
 abbrev pub written_by : List Entry → List (Option Change) → Store → Store
@@ -41,8 +43,16 @@ written_by_lem n (e ∷ es) (c ∷ cs) s l le =
     ∙ written_agree e.key es d (changes_by es cs) (written_one (change_of c) e.key s) l.3 (there e es c cs)
     ∙ written_by_lem e.key es cs (written_one (change_of c) e.key s) l.3 (omega arith)
 
+-- one entry is passed
+pub by_step : (es : List Entry) (cs : List (Option Change)) (i : ℕ) (s s₂ r : Store) (c : Option Change) → i < length es → i < length cs → c ≡ get_or cs i None
+    → s₂ ≡ written_one (change_of c) (get_or es i blank).key s → written_by (drop i es) (drop i cs) s ≡ r → written_by (drop (i + 1) es) (drop (i + 1) cs) s₂ ≡ r
+by_step es cs i s s₂ r c in-es in-cs at is inv =
+    ap (written_by (drop (i + 1) es) (drop (i + 1) cs)) (is ∙ ap (λ (x : Option Change). written_one (change_of x) (get_or es i blank).key s) at)
+    ∙ sym (λ j. written_by (drop_more es i blank in-es j) (drop_more cs i None in-cs j) s) ∙ inv
+
 -- the last entry is passed
-pub by_end : (es : List Entry) (cs : List (Option Change)) (i : ℕ) (s b : Store) → length es ≤ 128 → length cs ≡ 128 → Listed 0 es → length es ≤ i
-    → written_by (drop i es) (drop i cs) s ≡ written_by es cs b → s ≡ written es (changes_by es cs) b
-by_end es cs i s b le whole l done inv =
-    sym (ap (λ (m : List Entry). written_by m (drop i cs) s) (drop_all i es done)) ∙ inv ∙ sym (written_by_lem 0 es cs b l (omega arith))
+pub by_end : (es : List Entry) (os : List Outcome) (vs : List ℕ) (i : ℕ) (s b : Store) → length es ≤ 128 → length os ≡ 128 → length vs ≡ 128 → Listed 0 es → length es ≤ i
+    → written_by (drop i es) (drop i (slots_in os vs)) s ≡ written_by es (slots_in os vs) b → s ≡ written es (changes_by es (slots_in os vs)) b
+by_end es os vs i s b le whole beside l done inv =
+    let long = slots_long os vs whole beside in
+    sym (ap (λ (m : List Entry). written_by m (drop i (slots_in os vs)) s) (drop_all i es done)) ∙ inv ∙ sym (written_by_lem 0 es (slots_in os vs) b l (omega arith))

@@ -2,7 +2,7 @@
 ghost use Rattle.std.specs.Prelude.{◌≡◌};
 ghost use Rattle.catalogue.specs.Owned.{entries_of};
 ghost use Rattle.reference.specs.Receiver.{written_one, written, after_battery};
-ghost use Rattle.request.specs.Changes.{change_of, changes_by};
+ghost use Rattle.request.specs.Changes.{change_of, changes_by, slots_of};
 
 use crate::meaning::StoreMeaning;
 use crate::writing::{clear_all, put_value, remove_value};
@@ -25,7 +25,7 @@ fn apply_one<S: Store>(store: &mut S, key: u32, change: Option<Change>)
 // Applies what becomes of each item, in ascending key order. What the store refuses is passed over.
 #[tactic(auto, using(crate::proofs::Written::by_end))]
 pub fn apply_changes<S: Store>(catalogue: &Catalogue, changes: &ItemChanges, store: &mut S)
-    ensures { ⟦<S as StoreMeaning>⟧.store store.new ≡ written (entries_of catalogue.now) (changes_by (entries_of catalogue.now) changes.now.slots) (⟦<S as StoreMeaning>⟧.store store.old) }
+    ensures { ⟦<S as StoreMeaning>⟧.store store.new ≡ written (entries_of catalogue.now) (changes_by (entries_of catalogue.now) (slots_of changes.now)) (⟦<S as StoreMeaning>⟧.store store.old) }
 {
     for (item, entry) in catalogue.entries().iter().enumerate() {
         apply_one(store, entry.key, changes.at(item));

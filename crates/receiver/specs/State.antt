@@ -6,7 +6,7 @@ use Rattle.catalogue.specs.Owned.{entries_of}
 use Rattle.held.specs.Meaning.{bytes_held}
 use Rattle.store.specs.Slots.{settings_of}
 use Rattle.rule.specs.Rules.{Finding}
-use Rattle.request.specs.Changes.{changes_by}
+use Rattle.request.specs.Changes.{changes_by, slots_of}
 use Rattle.request.specs.declared.change.Change.{Change}
 use Rattle.reference.specs.declared.fault.CallFault.{CallFault}
 use Rattle.reference.specs.declared.call.Battery.{Battery}
@@ -36,7 +36,7 @@ state_of bu bs fu fs r =
       bbr = store_of bu bs r.layers.upper.upper;
       flash = store_of fu fs r.layers.upper.lower;
       held_bytes = bytes_held r.held;
-      transaction = option_map (opened_of (items_of r) r.queue.slots) r.transaction;
+      transaction = option_map (opened_of (items_of r) (slots_of r.queue)) r.transaction;
     }
 
 -- the reference's step from there, by what the rule finds

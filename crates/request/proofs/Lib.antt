@@ -2,8 +2,8 @@ pub mod Faults
 pub mod Heads
 pub mod Joined
 pub mod Keys
-pub mod Made
 pub mod Pairs
 pub mod Removals
 pub mod Settled
+pub mod Slots
 pub mod Walks

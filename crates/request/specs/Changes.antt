@@ -4,6 +4,24 @@ use Rattle.catalogue.specs.declared.entries.Entry.{Entry}
 use Rattle.reference.specs.Requests.{Changes}
 use Rattle.request.specs.declared.change.Change.{Change}
 use Rattle.request.specs.declared.change.Change.TheVariants.{Put, Remove}
+use Rattle.request.specs.declared.changes.Outcome.{Outcome}
+use Rattle.request.specs.declared.changes.Outcome.TheVariants.{Stays, Put as Puts, Remove as Removes}
+use Rattle.request.specs.declared.changes.ItemChanges.{ItemChanges}
+
+-- what becomes of one item, by its outcome and the value beside it
+abbrev pub slot_of : Outcome → ℕ → Option Change
+slot_of Stays v = None
+slot_of Puts v = Some (Put v)
+slot_of Removes v = Some Remove
+
+abbrev pub slots_in : List Outcome → List ℕ → List (Option Change)
+slots_in [] vs = []
+slots_in (o ∷ os) [] = []
+slots_in (o ∷ os) (v ∷ vs) = slot_of o v ∷ slots_in os vs
+
+-- what becomes of each item, at its place
+abbrev pub slots_of : ItemChanges → List (Option Change)
+slots_of c = slots_in c.outcomes c.values
 
 abbrev pub change_of : Option Change → Option (Option ℕ)
 change_of None = None

@@ -2,14 +2,23 @@
 // frames join a transaction, this is all that is kept of them.
 ghost use Rattle.std.specs.Prelude.{◌≡◌, length};
 
-use crate::change::Change;
-
 pub mod calls;
+
+// Whether an item changes, and how.
+#[derive(Clone, Copy)]
+enum Outcome {
+    Stays,
+    Put,
+    Remove,
+}
 
 #[derive(Clone, Copy)]
 pub struct ItemChanges {
-    // kept: fixed memory, since a receiver has no heap once it is made; each item has its slot at its place, so a vector would be as long, with None
-    // in most slots
-    slots: [Option<Change>; 128],
-    ghost whole: { length slots ≡ 128 },
+    // kept: fixed memory, since a receiver has no heap once it is made; two arrays, since nine bytes for each item are cleared and copied in a third of
+    // the time that an Option of a change takes, which has 24
+    outcomes: [Outcome; 128],
+    // the value that is put; of an item that has none here, any number
+    values: [u64; 128],
+    ghost outcomes_whole: { length outcomes ≡ 128 },
+    ghost values_whole: { length values ≡ 128 },
 }

@@ -3,6 +3,7 @@ ghost use Rattle.std.specs.Prelude.{◌≡◌, map, length, replicate, IfErr};
 ghost use Rattle.catalogue.specs.Owned.{entries_of};
 ghost use Rattle.item.specs.Selectors.{selector_of};
 ghost use Rattle.reference.specs.Requests.{read_map, pair_read, deletion_read, keys_named, named_read, deleted, latest, ok_map, data_of};
+ghost use Rattle.request.specs.Changes.{slots_of};
 ghost use Rattle.request.specs.Reading.{pair_in, fault_at, entry_read, Taken, read_as};
 
 use crate::change::Change;
@@ -71,7 +72,7 @@ fn read_pair(bytes: &[u8]) -> Option<Pair>
 impl ItemChanges {
     // Takes the pair at the front; answers how many bytes it takes.
     fn take_pair(&mut self, catalogue: &Catalogue, bytes: &[u8]) -> Result<usize, EntryFault>
-        ensures { Taken (entries_of catalogue.now) (pair_read (entries_of catalogue.now) bytes.now) (length bytes.now) self.old.slots self.new.slots result }
+        ensures { Taken (entries_of catalogue.now) (pair_read (entries_of catalogue.now) bytes.now) (length bytes.now) (slots_of self.old) (slots_of self.new) result }
     {
         let pair = read_pair(bytes).ok_or(EntryFault::Cut)?;
         let item = catalogue.find(pair.key).ok_or(EntryFault::Unknown)?;
@@ -81,7 +82,7 @@ impl ItemChanges {
 
     // Removes each item that a key or selector names, and refuses one that names none; answers the bytes of a key or selector.
     fn remove_named(&mut self, catalogue: &Catalogue, number: u32) -> Result<usize, EntryFault>
-        ensures { Taken (entries_of catalogue.now) (read_map (map deleted) (named_read (keys_named (selector_of number) (entries_of catalogue.now)))) 4 self.old.slots self.new.slots result }
+        ensures { Taken (entries_of catalogue.now) (read_map (map deleted) (named_read (keys_named (selector_of number) (entries_of catalogue.now)))) 4 (slots_of self.old) (slots_of self.new) result }
     {
         let selector = Selector::from(number);
         // kept: a flag, since the walk that removes sees whether any is named; asked in front, the entries would be walked twice
@@ -102,7 +103,7 @@ impl ItemChanges {
     // Takes the key or selector at the front; answers how many bytes it takes.
     #[tactic(auto, using(crate::proofs::Removals::removal_cut, crate::proofs::Removals::removal_taken, crate::proofs::Faults::faulted))]
     fn take_removal(&mut self, catalogue: &Catalogue, bytes: &[u8]) -> Result<usize, EntryFault>
-        ensures { Taken (entries_of catalogue.now) (deletion_read (entries_of catalogue.now) bytes.now) (length bytes.now) self.old.slots self.new.slots result }
+        ensures { Taken (entries_of catalogue.now) (deletion_read (entries_of catalogue.now) bytes.now) (length bytes.now) (slots_of self.old) (slots_of self.new) result }
     {
         let number = key_at(bytes).ok_or(EntryFault::Cut)?;
         self.remove_named(catalogue, number)
@@ -116,7 +117,7 @@ impl ItemChanges {
         id: u8,
         bytes: &[u8],
     ) -> Result<usize, EntryFault>
-        ensures { Taken (entries_of catalogue.now) (entry_read (entries_of catalogue.now) id bytes.now) (length bytes.now) self.old.slots self.new.slots result }
+        ensures { Taken (entries_of catalogue.now) (entry_read (entries_of catalogue.now) id bytes.now) (length bytes.now) (slots_of self.old) (slots_of self.new) result }
     {
         if id == VALSET {
             self.take_pair(catalogue, bytes)
@@ -130,8 +131,8 @@ impl Request<'_> {
     // Takes all entries, over changes that are none yet.
     #[tactic(auto, using(crate::proofs::Walks::data_start, crate::proofs::Walks::data_end, crate::proofs::Walks::data_many))]
     fn take_entries(&self, catalogue: &Catalogue, changes: &mut ItemChanges) -> Result<(), Refusal>
-        requires { changes.old.slots ≡ replicate 128 None }
-        ensures { read_as (entries_of catalogue.now) changes.new.slots result ≡ ok_map latest (data_of (entries_of catalogue.now) self.now.id self.now.payload.now) }
+        requires { slots_of changes.old ≡ replicate 128 None }
+        ensures { read_as (entries_of catalogue.now) (slots_of changes.new) result ≡ ok_map latest (data_of (entries_of catalogue.now) self.now.id self.now.payload.now) }
     {
         // kept: entries differ in length, so no chunks or iterator of the library yields them
         let mut place = HEAD;
@@ -151,8 +152,8 @@ impl Request<'_> {
     // What the data of a set or delete make of each item: the last value of a key stands. Refused data change none.
     // kept: the changes are written where the caller keeps them; they are some kilobytes, and a Result of them would be copied at each step
     pub fn read_data(&self, catalogue: &Catalogue, changes: &mut ItemChanges) -> Result<(), Refusal>
-        ensures value { read_as (entries_of catalogue.now) changes.new.slots result ≡ ok_map latest (data_of (entries_of catalogue.now) self.now.id self.now.payload.now) }
-        ensures refused { IfErr result (λ _. changes.new.slots ≡ replicate 128 None) }
+        ensures value { read_as (entries_of catalogue.now) (slots_of changes.new) result ≡ ok_map latest (data_of (entries_of catalogue.now) self.now.id self.now.payload.now) }
+        ensures refused { IfErr result (λ _. slots_of changes.new ≡ replicate 128 None) }
     {
         changes.forget();
         let taken = self.take_entries(catalogue, changes);

@@ -3,7 +3,7 @@ ghost use Rattle.std.specs.Prelude.{◌≡◌, ◌≤◌, length, Some};
 ghost use Rattle.frame.specs.Frames.{frame_bytes};
 ghost use Rattle.frame.specs.Written.{patched};
 ghost use Rattle.catalogue.specs.Owned.{entries_of};
-ghost use Rattle.request.specs.Changes.{changes_by};
+ghost use Rattle.request.specs.Changes.{changes_by, slots_of};
 ghost use Rattle.reference.specs.Receiver.{with_transaction, written_if, applied, of_kind};
 ghost use Rattle.receiver.specs.State.{items_of, opened_of, Kept};
 ghost use Rattle.receiver.specs.Written.{verdict_on};
@@ -25,7 +25,7 @@ use rule::Rule;
 // Changes a layer where it is chosen.
 // kept: the condition is a parameter, since three `if`s in `apply` would each want the proof that a layer which is not chosen stays
 fn apply_if<S: Store>(chosen: bool, catalogue: &Catalogue, changes: &ItemChanges, store: &mut S)
-    ensures { ⟦<S as StoreMeaning>⟧.store store.new ≡ written_if chosen (entries_of catalogue.now) (changes_by (entries_of catalogue.now) changes.now.slots) (⟦<S as StoreMeaning>⟧.store store.old) }
+    ensures { ⟦<S as StoreMeaning>⟧.store store.new ≡ written_if chosen (entries_of catalogue.now) (changes_by (entries_of catalogue.now) (slots_of changes.now)) (⟦<S as StoreMeaning>⟧.store store.old) }
 {
     if chosen {
         apply_changes(catalogue, changes, store);
@@ -36,7 +36,7 @@ impl<B: Store, F: Store, R: Rule> Receiver<B, F, R> {
     // Changes the chosen layers, RAM first, then BBR, then Flash, and ends the transaction.
     #[tactic(auto, using(crate::proofs::Carried::applied_is))]
     fn apply(&mut self, layers: Layers, items: &ItemChanges)
-        ensures after { ⟦<Self as Meaning>⟧.state self.new ≡ applied (items_of self.old) (⟦<Self as Meaning>⟧.state self.old) layers (changes_by (items_of self.old) items.now.slots) }
+        ensures after { ⟦<Self as Meaning>⟧.state self.new ≡ applied (items_of self.old) (⟦<Self as Meaning>⟧.state self.old) layers (changes_by (items_of self.old) (slots_of items.now)) }
         ensures kept { Kept self.old self.new }
     {
         let catalogue = &self.layers.lower.catalogue;
@@ -48,7 +48,7 @@ impl<B: Store, F: Store, R: Rule> Receiver<B, F, R> {
 
     // Keeps a transaction open, with these changes queued.
     fn keep_open(&mut self, transaction: Transaction, items: &ItemChanges)
-        ensures after { ⟦<Self as Meaning>⟧.state self.new ≡ with_transaction (⟦<Self as Meaning>⟧.state self.old) (Some (opened_of (items_of self.old) items.now.slots transaction)) }
+        ensures after { ⟦<Self as Meaning>⟧.state self.new ≡ with_transaction (⟦<Self as Meaning>⟧.state self.old) (Some (opened_of (items_of self.old) (slots_of items.now) transaction)) }
         ensures kept { Kept self.old self.new }
     {
         self.queue = *items;
@@ -57,7 +57,7 @@ impl<B: Store, F: Store, R: Rule> Receiver<B, F, R> {
 
     // What a granted set or delete is to do.
     fn carry_out(&mut self, plan: Plan, items: &ItemChanges)
-        ensures after { ⟦<Self as Meaning>⟧.state self.new ≡ after_plan (items_of self.old) (⟦<Self as Meaning>⟧.state self.old) items.now.slots plan }
+        ensures after { ⟦<Self as Meaning>⟧.state self.new ≡ after_plan (items_of self.old) (⟦<Self as Meaning>⟧.state self.old) (slots_of items.now) plan }
         ensures kept { Kept self.old self.new }
     {
         match plan {
@@ -81,7 +81,7 @@ impl<B: Store, F: Store, R: Rule> Receiver<B, F, R> {
     // What a granted frame comes to; answers how many bytes of a reply stand in the buffer.
     fn grant(&mut self, granted: Granted, items: &ItemChanges) -> usize
         ensures value { result ≡ grant_length granted }
-        ensures after { ⟦<Self as Meaning>⟧.state self.new ≡ after_grant (items_of self.old) (⟦<Self as Meaning>⟧.state self.old) items.now.slots granted }
+        ensures after { ⟦<Self as Meaning>⟧.state self.new ≡ after_grant (items_of self.old) (⟦<Self as Meaning>⟧.state self.old) (slots_of items.now) granted }
         ensures kept { Kept self.old self.new }
     {
         match granted {
@@ -105,7 +105,7 @@ impl<B: Store, F: Store, R: Rule> Receiver<B, F, R> {
         requires few { reply_length judged ≤ 780 }
         ensures value { result ≡ told_by frame judged }
         ensures out { out.new ≡ patched (reply_length judged) (frame_bytes (verdict_on (verdict_id judged) frame.id)) out.old }
-        ensures after { ⟦<Self as Meaning>⟧.state self.new ≡ after_verdict (items_of self.old) (⟦<Self as Meaning>⟧.state self.old) items.now.slots judged }
+        ensures after { ⟦<Self as Meaning>⟧.state self.new ≡ after_verdict (items_of self.old) (⟦<Self as Meaning>⟧.state self.old) (slots_of items.now) judged }
         ensures kept { Kept self.old self.new }
     {
         match judged {

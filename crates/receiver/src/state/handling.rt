@@ -1,6 +1,7 @@
 // Answering: the first frame in the held bytes is judged, carried out and told.
 ghost use Rattle.std.specs.Prelude.{◌≡◌, ◌≤◌, length};
 ghost use Rattle.frame.specs.Written.{in_front};
+ghost use Rattle.request.specs.Changes.{slots_of};
 ghost use Rattle.held.specs.Meaning.{bytes_held};
 ghost use Rattle.reference.specs.Requests.{configuration_class};
 ghost use Rattle.reference.specs.Receiver.{judged};
@@ -34,7 +35,7 @@ impl<B: Store, F: Store, R: Rule> Receiver<B, F, R> {
     ) -> Result<Granted, Refusal>
         requires class { frame.class ≡ configuration_class }
         requires fits { end_of frame ≤ length (bytes_held self.now.held) }
-        ensures { Judged (items_of self.now) items.new.slots out.old out.new (judged (items_of self.now) (R.Rule.finding self.now.rule) (⟦<Self as Meaning>⟧.state self.now) (message_in (bytes_held self.now.held) frame)) result }
+        ensures { Judged (items_of self.now) (slots_of items.new) out.old out.new (judged (items_of self.now) (R.Rule.finding self.now.rule) (⟦<Self as Meaning>⟧.state self.now) (message_in (bytes_held self.now.held) frame)) result }
     {
         let start = frame.noise + HEADER;
         let request = Request {

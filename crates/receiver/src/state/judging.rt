@@ -1,7 +1,7 @@
 // Judging a frame of the configuration class. Nothing is changed here but the buffer, into which a reply is written; what is to be done
 // comes back as a plan, with its changes beside it.
 ghost use Rattle.std.specs.Prelude.{◌≡◌, ◌≤◌, ◌||◌, length, if◌then◌else◌, ◌==◌, nat_eq};
-ghost use Rattle.request.specs.Changes.{changes_by};
+ghost use Rattle.request.specs.Changes.{changes_by, slots_of};
 ghost use Rattle.request.specs.Actions.{action_number};
 ghost use Rattle.request.specs.Reading.{read_as};
 ghost use Rattle.request.specs.Head.{opened_layers};
@@ -33,7 +33,7 @@ impl<B: Store, F: Store, R: Rule> Receiver<B, F, R> {
     // The item at fault in the RAM that applying would leave. It is tried on a copy.
     #[tactic(auto, using(crate::proofs::Planning::by_fault))]
     fn fault_of(&self, layers: Layers, items: &ItemChanges) -> Option<usize>
-        ensures { result ≡ apply_fault (items_of self.now) (R.Rule.finding self.now.rule) (⟦<Self as Meaning>⟧.state self.now) layers (changes_by (items_of self.now) items.now.slots) }
+        ensures { result ≡ apply_fault (items_of self.now) (R.Rule.finding self.now.rule) (⟦<Self as Meaning>⟧.state self.now) layers (changes_by (items_of self.now) (slots_of items.now)) }
     {
         if layers.ram {
             let mut ram = self.ram.copied();
@@ -46,7 +46,7 @@ impl<B: Store, F: Store, R: Rule> Receiver<B, F, R> {
 
     // Applying, where RAM would stay fit.
     fn plan_to_apply(&self, layers: Layers, items: &ItemChanges) -> Result<Plan, Refusal>
-        ensures { judgement_of (items_of self.now) items.now.slots result ≡ applying (apply_fault (items_of self.now) (R.Rule.finding self.now.rule) (⟦<Self as Meaning>⟧.state self.now) layers (changes_by (items_of self.now) items.now.slots)) layers (changes_by (items_of self.now) items.now.slots) }
+        ensures { judgement_of (items_of self.now) (slots_of items.now) result ≡ applying (apply_fault (items_of self.now) (R.Rule.finding self.now.rule) (⟦<Self as Meaning>⟧.state self.now) layers (changes_by (items_of self.now) (slots_of items.now))) layers (changes_by (items_of self.now) (slots_of items.now)) }
     {
         if let Some(item) = self.fault_of(layers, items) {
             return Err(Refusal::Unfit(item));
@@ -57,7 +57,7 @@ impl<B: Store, F: Store, R: Rule> Receiver<B, F, R> {
     // What is queued; nothing where no transaction is open.
     #[tactic(auto, using(crate::proofs::Planning::none_queued))]
     fn queued(&self) -> ItemChanges
-        ensures { changes_by (items_of self.now) result.slots ≡ queue_of (option_map (opened_of (items_of self.now) self.now.queue.slots) self.now.transaction) }
+        ensures { changes_by (items_of self.now) (slots_of result) ≡ queue_of (option_map (opened_of (items_of self.now) (slots_of self.now.queue)) self.now.transaction) }
     {
         match self.transaction {
             Some(_) => self.queue,
@@ -67,7 +67,7 @@ impl<B: Store, F: Store, R: Rule> Receiver<B, F, R> {
 
     // What is queued, with more behind it.
     fn queue_with(&self, changes: &ItemChanges) -> ItemChanges
-        ensures { changes_by (items_of self.now) result.slots ≡ and_later (queue_of (option_map (opened_of (items_of self.now) self.now.queue.slots) self.now.transaction)) (changes_by (items_of self.now) changes.now.slots) }
+        ensures { changes_by (items_of self.now) (slots_of result) ≡ and_later (queue_of (option_map (opened_of (items_of self.now) (slots_of self.now.queue)) self.now.transaction)) (changes_by (items_of self.now) (slots_of changes.now)) }
     {
         self.queued().and_later(changes)
     }
@@ -79,7 +79,7 @@ impl<B: Store, F: Store, R: Rule> Receiver<B, F, R> {
         action: Action,
         items: &mut ItemChanges,
     ) -> Result<(), Refusal>
-        ensures { read_as (items_of self.now) items.new.slots result ≡ changes_for (items_of self.now) (queue_of (option_map (opened_of (items_of self.now) self.now.queue.slots) self.now.transaction)) (request_message request.now) action }
+        ensures { read_as (items_of self.now) (slots_of items.new) result ≡ changes_for (items_of self.now) (queue_of (option_map (opened_of (items_of self.now) (slots_of self.now.queue)) self.now.transaction)) (request_message request.now) action }
     {
         let catalogue = &self.layers.lower.catalogue;
         match action {
@@ -104,7 +104,7 @@ impl<B: Store, F: Store, R: Rule> Receiver<B, F, R> {
         action: Action,
         items: &mut ItemChanges,
     ) -> Result<Plan, Refusal>
-        ensures { judgement_of (items_of self.now) items.new.slots result ≡ planned (items_of self.now) (R.Rule.finding self.now.rule) (⟦<Self as Meaning>⟧.state self.now) (request_message request.now) layers (action_number action) }
+        ensures { judgement_of (items_of self.now) (slots_of items.new) result ≡ planned (items_of self.now) (R.Rule.finding self.now.rule) (⟦<Self as Meaning>⟧.state self.now) (request_message request.now) layers (action_number action) }
     {
         self.changes_for(request, action, items)?;
         match action {
@@ -118,7 +118,7 @@ impl<B: Store, F: Store, R: Rule> Receiver<B, F, R> {
 
     // A set or a delete.
     fn judge_change(&self, request: &Request<'_>, items: &mut ItemChanges) -> Result<Plan, Refusal>
-        ensures { judgement_of (items_of self.now) items.new.slots result ≡ judged_change (items_of self.now) (R.Rule.finding self.now.rule) (⟦<Self as Meaning>⟧.state self.now) (request_message request.now) }
+        ensures { judgement_of (items_of self.now) (slots_of items.new) result ≡ judged_change (items_of self.now) (R.Rule.finding self.now.rule) (⟦<Self as Meaning>⟧.state self.now) (request_message request.now) }
     {
         let usable = self.layers.upper.lower.is_usable();
         request.check_head(usable, self.opened_layers())?;
@@ -127,7 +127,7 @@ impl<B: Store, F: Store, R: Rule> Receiver<B, F, R> {
 
     // The layers that the open transaction was opened for.
     fn opened_layers(&self) -> Option<Layers>
-        ensures { result ≡ opened_layers (option_map (opened_of (items_of self.now) self.now.queue.slots) self.now.transaction) }
+        ensures { result ≡ opened_layers (option_map (opened_of (items_of self.now) (slots_of self.now.queue)) self.now.transaction) }
     {
         self.transaction.map(|transaction| transaction.layers)
     }
@@ -140,7 +140,7 @@ impl<B: Store, F: Store, R: Rule> Receiver<B, F, R> {
         out: &mut [u8; ANSWER_ROOM],
     ) -> Result<Granted, Refusal>
         requires long { 4 ≤ length request.now.payload.now }
-        ensures { Judged (items_of self.now) items.new.slots out.old out.new (if nat_eq request.now.id valget then judged_get (items_of self.now) (⟦<Self as Meaning>⟧.state self.now) (request_message request.now) else judged_change (items_of self.now) (R.Rule.finding self.now.rule) (⟦<Self as Meaning>⟧.state self.now) (request_message request.now)) result }
+        ensures { Judged (items_of self.now) (slots_of items.new) out.old out.new (if nat_eq request.now.id valget then judged_get (items_of self.now) (⟦<Self as Meaning>⟧.state self.now) (request_message request.now) else judged_change (items_of self.now) (R.Rule.finding self.now.rule) (⟦<Self as Meaning>⟧.state self.now) (request_message request.now)) result }
     {
         if request.id == VALGET {
             let length = self.judge_get(request.payload, out)?;
@@ -158,7 +158,7 @@ impl<B: Store, F: Store, R: Rule> Receiver<B, F, R> {
         items: &mut ItemChanges,
         out: &mut [u8; ANSWER_ROOM],
     ) -> Result<Granted, Refusal>
-        ensures { Judged (items_of self.now) items.new.slots out.old out.new (judged (items_of self.now) (R.Rule.finding self.now.rule) (⟦<Self as Meaning>⟧.state self.now) (request_message request.now)) result }
+        ensures { Judged (items_of self.now) (slots_of items.new) out.old out.new (judged (items_of self.now) (R.Rule.finding self.now.rule) (⟦<Self as Meaning>⟧.state self.now) (request_message request.now)) result }
     {
         if !is_request(request.id) {
             return Err(Refusal::OtherId);

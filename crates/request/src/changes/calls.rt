@@ -2,48 +2,74 @@
 ghost use Rattle.std.specs.Prelude.{◌≡◌, List, replicate, slice_index_or, slice_set};
 ghost use Rattle.catalogue.specs.declared.entries.Entry.{Entry};
 ghost use Rattle.reference.specs.Requests.{and_later};
-ghost use Rattle.request.specs.Changes.{changes_by};
+ghost use Rattle.request.specs.Changes.{changes_by, slots_of};
 
-use super::ItemChanges;
+use super::{ItemChanges, Outcome};
 use crate::change::Change;
 
 impl ItemChanges {
     // No item changes.
+    #[tactic(auto, using(crate::proofs::Slots::none_stay))]
     pub fn none() -> ItemChanges
-        ensures { result.slots ≡ replicate 128 None }
+        ensures { slots_of result ≡ replicate 128 None }
     {
-        ItemChanges { slots: [None; 128] }
+        ItemChanges {
+            outcomes: [Outcome::Stays; 128],
+            values: [0; 128],
+        }
     }
 
     // No item changes any more.
+    #[tactic(auto, using(crate::proofs::Slots::none_stay))]
     pub fn forget(&mut self)
-        ensures { self.new.slots ≡ replicate 128 None }
+        ensures { slots_of self.new ≡ replicate 128 None }
     {
-        self.slots = [None; 128];
+        self.outcomes = [Outcome::Stays; 128];
     }
 
     // What becomes of an item; nothing of one beyond the 128th.
+    #[tactic(auto, using(crate::proofs::Slots::at_none, crate::proofs::Slots::at_put, crate::proofs::Slots::at_remove, crate::proofs::Slots::at_beyond))]
     pub fn at(&self, item: usize) -> Option<Change>
-        ensures { result ≡ slice_index_or self.now.slots item None }
+        ensures { result ≡ slice_index_or (slots_of self.now) item None }
     {
-        self.slots.get(item).copied().flatten()
+        if item >= 128 {
+            return None;
+        }
+        match self.outcomes[item] {
+            Outcome::Stays => None,
+            Outcome::Put => Some(Change::Put(self.values[item])),
+            Outcome::Remove => Some(Change::Remove),
+        }
     }
 
     // One item changes so; an item beyond the 128th is passed over.
+    #[tactic(auto, using(crate::proofs::Slots::set_none, crate::proofs::Slots::set_remove, crate::proofs::Slots::set_put, crate::proofs::Slots::set_beyond))]
     pub fn set(&mut self, item: usize, change: Option<Change>)
-        ensures { self.new.slots ≡ slice_set self.old.slots item change }
+        ensures { slots_of self.new ≡ slice_set (slots_of self.old) item change }
     {
-        if item < 128 {
-            self.slots[item] = change;
+        if item >= 128 {
+            return;
+        }
+        match change {
+            None => self.outcomes[item] = Outcome::Stays,
+            Some(Change::Put(value)) => {
+                self.outcomes[item] = Outcome::Put;
+                self.values[item] = value;
+            }
+            Some(Change::Remove) => self.outcomes[item] = Outcome::Remove,
         }
     }
 
     // Later changes over these, whatever the catalogue.
     pub fn and_later(&self, later: &ItemChanges) -> ItemChanges
-        ensures { (es : List Entry) → changes_by es result.slots ≡ and_later (changes_by es self.now.slots) (changes_by es later.now.slots) }
+        ensures { (es : List Entry) → changes_by es (slots_of result) ≡ and_later (changes_by es (slots_of self.now)) (changes_by es (slots_of later.now)) }
     {
-        ItemChanges {
-            slots: std::array::from_fn(|item| later.at(item).or(self.at(item))),
+        let mut both = *self;
+        for item in 0..128 {
+            if let Some(change) = later.at(item) {
+                both.set(item, Some(change));
+            }
         }
+        both
     }
 }

@@ -1,10 +1,11 @@
 use Rattle.std.proofs.Common.{◌≡◌, drop}
 use Rattle.reference.specs.Stores.{store_of}
 use Rattle.configuration.proofs.Written.{written_by}
+use Rattle.request.specs.Changes.{slots_of}
 use Rattle.configuration.proofs.applying.apply_changes.Given as goal
 
 abbrev pub invariant-loop-item : goal.invariant-loop-item
 invariant-loop-item g l =
     let store = store_of g.S.Store.usable g.S.Layer.settings in
     let entries = l.entry-items in
-    written_by (drop l.item entries) (drop l.item l.changes.slots) (store l.store) ≡ written_by entries l.changes.slots (store l.initial.store)
+    written_by (drop l.item entries) (drop l.item (slots_of l.changes)) (store l.store) ≡ written_by entries (slots_of l.changes) (store l.initial.store)

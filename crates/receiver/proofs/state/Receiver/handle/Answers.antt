@@ -1,5 +1,6 @@
 use Rattle.std.proofs.Common.{ap}
 use Rattle.held.specs.Meaning.{bytes_held}
+use Rattle.request.specs.Changes.{slots_of}
 use Rattle.receiver.specs.State.{items_of, state_of}
 use Rattle.receiver.proofs.Handled.{request_handled, outside_handled}
 use Rattle.receiver.proofs.state.Receiver.handle.Goals as goal
@@ -18,7 +19,7 @@ returns-clause-handling g c =
     let cancelling = c.cancel_other_kind.ensures in
     let concluding = c.conclude-telling.ensures in
     request_handled (items_of before) (g.R.Rule.finding before.rule) (state_of g.B.Store.usable g.B.Layer.settings g.F.Store.usable g.F.Layer.settings before) c.args.frame
-    c.judge_held-judged.new.items.slots (items_of cancelled) (g.R.Rule.finding cancelled.rule)
+    (slots_of c.judge_held-judged.new.items) (items_of cancelled) (g.R.Rule.finding cancelled.rule)
     (state_of g.B.Store.usable g.B.Layer.settings g.F.Store.usable g.F.Layer.settings cancelled)
     (state_of g.B.Store.usable g.B.Layer.settings g.F.Store.usable g.F.Layer.settings concluded) (bytes_held c.skip-2.new.self) c.args.out.now
     c.judge_held-judged.new.out c.conclude-telling.new.out c.judge_held-judged.result c.conclude-telling.result c.end-2.result c.if-frame-ne-CONFIGURATION_CLASS.false

@@ -1,3 +1,4 @@
+use Rattle.request.proofs.Slots.{slots_long}
 use Rattle.request.proofs.Removals.{removing_named, removing_past, removing_end, removing_none}
 use Rattle.request.proofs.changes.ItemChanges.remove_named.Goals as goal
 use Rattle.request.proofs.changes.ItemChanges.remove_named.Goals.{then-names, else-names}
@@ -5,10 +6,11 @@ use Rattle.request.proofs.changes.ItemChanges.remove_named.Goals.{then-names, el
 pub loop-item-preserved : goal.loop-item-preserved
 loop-item-preserved c =
     let items = c.entries-entry-items.ensures in
+    let slots = c.loop-item.self in
     let lt = rw items.value at c.loop-item-test.true in
     elim c.if-names.branch [
       | then-names w ↦ rw (w.self-is, w.named-is)
-          (removing_named _ _ _ _ _ _ _ c.loop-item.invariant (rw items.value at items.listed) (rw items.value at items.few) c.loop-item.self.whole lt
+          (removing_named _ _ _ _ _ _ _ c.loop-item.invariant (rw items.value at items.listed) (rw items.value at items.few) (slots_long slots.outcomes slots.values slots.outcomes_whole slots.values_whole) lt
           (rw items.value at w.if-names.ensures) w.set.ensures)
       | else-names w ↦ rw (w.self-is, w.named-is) (removing_past _ _ _ _ _ _ c.loop-item.invariant lt (rw items.value at w.if-names.ensures))
     ]

@@ -2,6 +2,7 @@ use Rattle.std.proofs.Common.{sym, ◌∙◌}
 use Rattle.catalogue.specs.Owned.{entries_of}
 use Rattle.catalogue.proofs.Catalogues.{checked_listed}
 use Rattle.request.proofs.Faults.{faulted}
+use Rattle.request.proofs.Slots.{slots_long}
 use Rattle.request.proofs.Pairs.{pair_cut, pair_unknown, pair_taken}
 use Rattle.request.proofs.changes.ItemChanges.take_pair.Goals as goal
 
@@ -22,5 +23,6 @@ returns c =
     let pair = c.in_ok-pair.ensures in
     let some = c.in_ok-item.ensures in
     let catalogue = c.args.catalogue.now in
+    let before = c.args.self.now in
     pair_taken _ _ _ _ _ _ (sym pair.ok_part ∙ c.read_pair.ensures) (rw some.ok_part at c.find.ensures) (checked_listed (entries_of catalogue) catalogue.checked) catalogue.few
-    c.args.self.now.whole c.set.ensures
+    (slots_long before.outcomes before.values before.outcomes_whole before.values_whole) c.set.ensures
