@@ -4,4 +4,5 @@ pub mod Rows
 pub mod Stores
 pub mod Strays
 pub mod Tables
+pub mod Tried
 pub mod Written

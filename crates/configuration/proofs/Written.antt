@@ -33,7 +33,7 @@ there e es c cs k lt = grind (arith, nat_tests)
 here : (e : Entry) (es : List Entry) (c : Option Change) (cs : List (Option Change)) → changes_by (e ∷ es) (c ∷ cs) e.key ≡ change_of c
 here e es c cs = grind (arith, nat_tests)
 
-written_by_lem : (n : ℕ) (es : List Entry) (cs : List (Option Change)) (s : Store) → Listed n es → length es ≤ length cs → written es (changes_by es cs) s ≡ written_by es cs s
+pub written_by_lem : (n : ℕ) (es : List Entry) (cs : List (Option Change)) (s : Store) → Listed n es → length es ≤ length cs → written es (changes_by es cs) s ≡ written_by es cs s
 unfolding written Listed
 written_by_lem n [] cs s l le = refl
 written_by_lem n (e ∷ es) [] s l le = absurd (omega arith)

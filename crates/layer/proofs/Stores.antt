@@ -20,7 +20,7 @@ unfolding is_setting
 setting_from k v w f = and_from (well_formed k) (fits_key k v) w f
 
 -- what is held already can be put
-held_room : (k v : ℕ) (ss : List Setting) → value_under k ss ≡ Some v → room k ss ≡ true
+pub held_room : (k v : ℕ) (ss : List Setting) → value_under k ss ≡ Some v → room k ss ≡ true
 held_room k v ss e = ap (λ (o : Option ℕ). cond (is_some o) true (ltb (length ss) 128)) e
 
 pub put_held : (usable : Bool) (k v : ℕ) (ss : List Setting) → (usable ≡ false → ss ≡ []) → is_setting k v ≡ true → value_under k ss ≡ Some v → Ok tt ≡ put_answer usable k v ss

@@ -7,7 +7,6 @@ use Rattle.frame.specs.Frames.{Message}
 use Rattle.rule.specs.Rules.{Finding}
 use Rattle.reference.specs.declared.refusal.Refusal.{Refusal}
 use Rattle.reference.specs.declared.layers.Layers.{Layers}
-use Rattle.reference.specs.Stores.{Store}
 use Rattle.reference.specs.Requests.{Catalogue, Changes, latest, and_later, ok_map, layers_of, action_of, data_of}
 use Rattle.reference.specs.Receiver.{State, Plan, queue, written, configuration, and_then, apply_fault, applying, queue_of, planned, judged_change}
 use Rattle.catalogue.specs.declared.entries.Entry.{Entry}
@@ -28,9 +27,9 @@ module _ (cat : Catalogue) (rule : Finding) (s : State) (l : Layers) (d : Change
   unfolding apply_fault
   fault_unchosen e = sym (cond-false l.ram _ _ e)
 
-  pub fault_found : (o : Option ℕ) (ram : Store) → l.ram ≡ true → ram ≡ written cat d s.ram → o ≡ rule cat (configuration cat ram) → o ≡ apply_fault cat rule s l d
+  pub fault_found : (o : Option ℕ) → l.ram ≡ true → o ≡ rule cat (configuration cat (written cat d s.ram)) → o ≡ apply_fault cat rule s l d
   unfolding apply_fault
-  fault_found o ram e w f = f ∙ ap (λ (r : Store). rule cat (configuration cat r)) w ∙ sym (cond-true l.ram _ _ e)
+  fault_found o e f = f ∙ sym (cond-true l.ram _ _ e)
 
 pub ruleset by_fault = (fault_unchosen, fault_found)
 

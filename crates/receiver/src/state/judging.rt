@@ -15,7 +15,7 @@ use super::Receiver;
 use super::handling::ANSWER_ROOM;
 use super::meaning::Meaning;
 use crate::transaction::{Granted, Plan, Transaction};
-use configuration::{apply_changes, fault_in};
+use configuration::fault_after;
 use layer::Store;
 use reference::{Layers, Refusal};
 use request::{Action, HEAD, ItemChanges, Request, VALDEL, VALGET, VALSET};
@@ -30,15 +30,13 @@ fn is_request(id: u8) -> bool
 }
 
 impl<B: Store, F: Store, R: Rule> Receiver<B, F, R> {
-    // The item at fault in the RAM that applying would leave. It is tried on a copy.
+    // The item at fault in the RAM that applying would leave.
     #[tactic(auto, using(crate::proofs::Planning::by_fault))]
     fn fault_of(&self, layers: Layers, items: &ItemChanges) -> Option<usize>
         ensures { result ≡ apply_fault (items_of self.now) (R.Rule.finding self.now.rule) (⟦<Self as Meaning>⟧.state self.now) layers (changes_by (items_of self.now) (slots_of items.now)) }
     {
         if layers.ram {
-            let mut ram = self.ram.copied();
-            apply_changes(&self.layers.lower.catalogue, items, &mut ram);
-            fault_in(&self.layers.lower.catalogue, &ram, &self.rule)
+            fault_after(&self.layers.lower.catalogue, items, &self.ram, &self.rule)
         } else {
             None
         }
