@@ -1,5 +1,5 @@
 // What a rule would find in a table once changes are applied to it. The table stays as it is.
-ghost use Rattle.std.specs.Prelude.{◌≡◌, MatchOption};
+ghost use Rattle.std.specs.Prelude.{◌≡◌, [], MatchOption};
 ghost use Rattle.catalogue.specs.Owned.{entries_of};
 ghost use Rattle.reference.specs.Receiver.{written, configuration};
 ghost use Rattle.request.specs.Changes.{changes_by, slots_of};
@@ -34,19 +34,35 @@ fn item_after(table: &SlotTable, key: u32, change: Option<Change>) -> Option<u64
     value_after(key, table.value(key)?, change)
 }
 
-// The values that the table would give; none where they are not as plain as this, and have to be tried.
+// The values that the table would give, behind none yet; None where they are not as plain as this, and have to be tried.
+// kept: they are written where the caller keeps them, since an Option of them is a kilobyte that would be handed on at each step
 fn values_after(
     catalogue: &Catalogue,
     changes: &ItemChanges,
     table: &SlotTable,
-) -> Option<ArrayVec<u64, 128>>
-    ensures { MatchOption result (Unit {0}) (λ v. v.items ≡ configuration (entries_of catalogue.now) (written (entries_of catalogue.now) (changes_by (entries_of catalogue.now) (slots_of changes.now)) (⟦<SlotTable as StoreMeaning>⟧.store table.now))) }
+    values: &mut ArrayVec<u64, 128>,
+) -> Option<()>
+    requires { values.old.items ≡ [] }
+    ensures { MatchOption result (Unit {0}) (λ _. values.new.items ≡ configuration (entries_of catalogue.now) (written (entries_of catalogue.now) (changes_by (entries_of catalogue.now) (slots_of changes.now)) (⟦<SlotTable as StoreMeaning>⟧.store table.now))) }
 {
-    let mut values = ArrayVec::new();
     for (item, entry) in catalogue.entries().iter().enumerate() {
         values.push(item_after(table, entry.key, changes.at(item))?);
     }
-    Some(values)
+    Some(())
+}
+
+// The item at fault by trying: the changes are applied to a copy.
+fn fault_by_trying<R: Rule>(
+    catalogue: &Catalogue,
+    changes: &ItemChanges,
+    table: &SlotTable,
+    rule: &R,
+) -> Option<usize>
+    ensures { result ≡ R.Rule.finding rule.now (entries_of catalogue.now) (configuration (entries_of catalogue.now) (written (entries_of catalogue.now) (changes_by (entries_of catalogue.now) (slots_of changes.now)) (⟦<SlotTable as StoreMeaning>⟧.store table.now))) }
+{
+    let mut tried = table.copied();
+    apply_changes(catalogue, changes, &mut tried);
+    fault_in(catalogue, &tried, rule)
 }
 
 // The item at fault once changes are applied to a table: none where the rule finds it fit.
@@ -59,15 +75,12 @@ pub fn fault_after<R: Rule>(
 ) -> Option<usize>
     ensures { result ≡ R.Rule.finding rule.now (entries_of catalogue.now) (configuration (entries_of catalogue.now) (written (entries_of catalogue.now) (changes_by (entries_of catalogue.now) (slots_of changes.now)) (⟦<SlotTable as StoreMeaning>⟧.store table.now))) }
 {
-    match values_after(catalogue, changes, table) {
-        Some(values) => rule.find(Configuration {
+    let mut values = ArrayVec::new();
+    match values_after(catalogue, changes, table, &mut values) {
+        Some(()) => rule.find(Configuration {
             entries: catalogue.entries(),
             values: values.as_slice(),
         }),
-        None => {
-            let mut tried = table.copied();
-            apply_changes(catalogue, changes, &mut tried);
-            fault_in(catalogue, &tried, rule)
-        }
+        None => fault_by_trying(catalogue, changes, table, rule),
     }
 }
