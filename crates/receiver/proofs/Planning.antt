@@ -1,5 +1,5 @@
 -- What a frame is judged to do, in the direction of the code's contracts.
-use Rattle.std.proofs.Common.{◌≡◌, ◌⊎◌, inl, inr, ℕ, zero, suc, Bool, true, false, List, [], ◌∷◌, replicate, Some, None, Ok, Err, Option, Result, sym, refl, ap, ◌∙◌, ap₂, arith}
+use Rattle.std.proofs.Common.{◌≡◌, ◌⊎◌, inl, inr, ℕ, zero, suc, Bool, true, false, is_some, List, [], ◌∷◌, replicate, Some, None, Ok, Err, Option, Result, sym, refl, ap, ◌∙◌, ap₂, arith}
 use mathlib.Core.Path.{fun_ext}
 use Rattle.std.proofs.lemmas.Bool.{cond-true, cond-false}
 use Rattle.std.proofs.lemmas.Bool.Decides.{nat_tests}
@@ -10,7 +10,7 @@ use Rattle.reference.specs.declared.layers.Layers.{Layers}
 use Rattle.reference.specs.Requests.{Catalogue, Changes, latest, and_later, ok_map, layers_of, action_of, data_of}
 use Rattle.reference.specs.Receiver.{State, Plan, queue, written, configuration, and_then, apply_fault, applying, queue_of, planned, judged_change}
 use Rattle.catalogue.specs.declared.entries.Entry.{Entry}
-use Rattle.std.specs.Option.{option_map}
+use Rattle.std.specs.Option.{option_map, option_or}
 use Rattle.request.specs.declared.change.Change.{Change}
 use Rattle.request.specs.declared.action.Action.{Action}
 use Rattle.request.specs.declared.action.Action.TheVariants.{Apply, Open, Add, Close}
@@ -70,8 +70,29 @@ module _ (cat : Catalogue) (rule : Finding) (s : State) (m : Message) (l : Layer
       → r ≡ applying (apply_fault cat rule s l d) l d → r ≡ planned cat rule s m l (action_number a)
   plan_applied a d r is e f = f ∙ applied_with a d is ∙ ap (λ (c : Result Changes Refusal). and_then c (done_with a)) e ∙ plan_is a
 
-pub later_queue : (z q q' d : Changes) → z ≡ and_later q d → q ≡ q' → z ≡ and_later q' d
-later_queue z q q' d e is = e ∙ ap (λ (x : Changes). and_later x d) is
+-- What is queued, under changes
+
+or_none_lem : (x : Option (Option ℕ)) → option_or x None ≡ x
+or_none_lem None = refl
+or_none_lem (Some y) = refl
+
+module _ (es : List Entry) (slots : List (Option Change)) (t : Option Transaction) (old : List (Option Change)) where
+  abbrev joined : Option Transaction → Changes
+  joined o = and_later (queue_of (option_map (opened_of es slots) o)) (changes_by es old)
+
+  pub none_under : is_some t ≡ false → changes_by es old ≡ joined t
+  none_under e = go t e
+    where
+      go : (o : Option Transaction) → is_some o ≡ false → changes_by es old ≡ joined o
+      go None e = sym (fun_ext (λ k. or_none_lem (changes_by es old k)))
+      go (Some x) e = absurd (cc)
+
+  pub queued_under : (c : Changes) → is_some t ≡ true → c ≡ and_later (changes_by es slots) (changes_by es old) → c ≡ joined t
+  queued_under c e is = go t e
+    where
+      go : (o : Option Transaction) → is_some o ≡ true → c ≡ joined o
+      go None e = absurd (cc)
+      go (Some x) e = is
 
 -- The checks of the head come first
 

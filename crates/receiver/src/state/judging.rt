@@ -52,22 +52,25 @@ impl<B: Store, F: Store, R: Rule> Receiver<B, F, R> {
         Ok(Plan::Apply(layers))
     }
 
-    // What is queued; nothing where no transaction is open.
+    // Loads what is queued; nothing where no transaction is open.
     #[tactic(auto, using(crate::proofs::Planning::none_queued))]
-    fn queued(&self) -> ItemChanges
-        ensures { changes_by (items_of self.now) (slots_of result) ≡ queue_of (option_map (opened_of (items_of self.now) (slots_of self.now.queue)) self.now.transaction) }
+    fn load_queue(&self, items: &mut ItemChanges)
+        ensures { changes_by (items_of self.now) (slots_of items.new) ≡ queue_of (option_map (opened_of (items_of self.now) (slots_of self.now.queue)) self.now.transaction) }
     {
         match self.transaction {
-            Some(_) => self.queue,
-            None => ItemChanges::none(),
+            Some(_) => *items = self.queue,
+            None => items.forget(),
         }
     }
 
-    // What is queued, with more behind it.
-    fn queue_with(&self, changes: &ItemChanges) -> ItemChanges
-        ensures { changes_by (items_of self.now) (slots_of result) ≡ and_later (queue_of (option_map (opened_of (items_of self.now) (slots_of self.now.queue)) self.now.transaction)) (changes_by (items_of self.now) (slots_of changes.now)) }
+    // Puts what is queued under changes.
+    #[tactic(auto, using(crate::proofs::Planning::none_under, crate::proofs::Planning::queued_under))]
+    fn put_queue_under(&self, items: &mut ItemChanges)
+        ensures { changes_by (items_of self.now) (slots_of items.new) ≡ and_later (queue_of (option_map (opened_of (items_of self.now) (slots_of self.now.queue)) self.now.transaction)) (changes_by (items_of self.now) (slots_of items.old)) }
     {
-        self.queued().and_later(changes)
+        if self.transaction.is_some() {
+            items.put_under(&self.queue, self.layers.lower.catalogue.entries().len());
+        }
     }
 
     // The changes that an action is about: those of its frame, behind those queued where it adds. Closing does not read its own.
@@ -84,11 +87,11 @@ impl<B: Store, F: Store, R: Rule> Receiver<B, F, R> {
             Action::Apply | Action::Open => request.read_data(catalogue, items),
             Action::Add => {
                 request.read_data(catalogue, items)?;
-                *items = self.queue_with(items);
+                self.put_queue_under(items);
                 Ok(())
             }
             Action::Close => {
-                *items = self.queued();
+                self.load_queue(items);
                 Ok(())
             }
         }

@@ -1,5 +1,5 @@
 // Making changes, setting one item's, and joining later ones to earlier ones.
-ghost use Rattle.std.specs.Prelude.{◌≡◌, List, replicate, slice_index_or, slice_set};
+ghost use Rattle.std.specs.Prelude.{◌≡◌, ◌≤◌, ℕ, List, length, replicate, slice_index_or, slice_set};
 ghost use Rattle.catalogue.specs.declared.entries.Entry.{Entry};
 ghost use Rattle.reference.specs.Requests.{and_later};
 ghost use Rattle.request.specs.Changes.{changes_by, slots_of};
@@ -60,16 +60,15 @@ impl ItemChanges {
         }
     }
 
-    // Later changes over these, whatever the catalogue.
-    pub fn and_later(&self, later: &ItemChanges) -> ItemChanges
-        ensures { (es : List Entry) → changes_by es (slots_of result) ≡ and_later (changes_by es (slots_of self.now)) (changes_by es (slots_of later.now)) }
+    // Earlier changes under these, of the first so many items: where such an item does not change by these, it changes as it did earlier.
+    pub fn put_under(&mut self, earlier: &ItemChanges, items: usize)
+        ensures joined { (es : List Entry) → length es ≤ items → length es ≤ 128 → changes_by es (slots_of self.new) ≡ and_later (changes_by es (slots_of earlier.now)) (changes_by es (slots_of self.old)) }
+        ensures others { (i : ℕ) → items ≤ i → slice_index_or (slots_of self.new) i None ≡ slice_index_or (slots_of self.old) i None }
     {
-        let mut both = *self;
-        for item in 0..128 {
-            if let Some(change) = later.at(item) {
-                both.set(item, Some(change));
+        for item in 0..items.min(128) {
+            if self.at(item).is_none() {
+                self.set(item, earlier.at(item));
             }
         }
-        both
     }
 }
