@@ -159,10 +159,6 @@ pub not_held : (k : ℕ) (ss now : List Setting) (o : Option ℕ) → now ≡ wi
 not_held k ss now None e is none = e ∙ without_none k ss (sym is)
 not_held k ss now (Some v) e is none = absurd (true≢false (sym none))
 
-pub not_written : (t : SlotTable) (ws : List ℕ) (k : ℕ) (o : Option ℕ) (rest : List ℕ) → settings_of t.slots ≡ held_in ws → o ≡ value_under k (settings_of t.slots) → false ≡ is_some o
-    → ws ≡ cond (is_some (value_under k (held_in ws))) rest ws
-not_written t ws k o rest held is none = sym (cond-false _ _ _ (ap (λ (xs : List Setting). is_some (value_under k xs)) (sym held) ∙ ap is_some (sym is) ∙ sym none))
-
 -- all words blank
 pub blank_all : (ws new : List ℕ) → is_accepted ws ≡ true → new ≡ replicate (length ws) blank → Written new [] 0
 unfolding used_in
