@@ -1,6 +1,9 @@
 -- What a store that is chosen at run time means: what the one that it is means.
-use Rattle.std.specs.Prelude.{ℕ, Bool, true, false, List, [], Some, None, Option}
+use Rattle.std.specs.Prelude.{ℕ, Bool, true, false, List, [], cond, Some, None, Option}
 use Rattle.journal.specs.Inspecting.{held_in, is_accepted}
+use Rattle.journal.specs.Writing.{words_put, words_removed, words_cleared}
+use Rattle.layer.specs.Settings.{value_under}
+use Rattle.layer.specs.Stores.{is_held}
 use Rattle.layer.specs.declared.setting.Setting.{Setting}
 use Rattle.any_store.specs.declared.any.AnyStore.{AnyStore}
 use Rattle.any_store.specs.declared.any.AnyStore.TheVariants.{Slots, Nowhere, Words, SavedSlots, SavedNowhere, SavedWords}
@@ -48,3 +51,29 @@ any_words (Words j) = Some j.words.items
 any_words (SavedSlots s) = None
 any_words (SavedNowhere s) = None
 any_words (SavedWords s) = Some s.store.words.items
+
+-- the words that each call leaves in a journal; a saver puts nothing that is held already
+abbrev pub any_words_put : ℕ → ℕ → AnyStore → Option (List ℕ)
+any_words_put k v (Slots t) = None
+any_words_put k v (Nowhere a) = None
+any_words_put k v (Words j) = Some (words_put k v j.words.items)
+any_words_put k v (SavedSlots s) = None
+any_words_put k v (SavedNowhere s) = None
+any_words_put k v (SavedWords s) =
+    cond (is_held v (value_under k (held_in s.store.words.items))) (Some s.store.words.items) (Some (words_put k v s.store.words.items))
+
+abbrev pub any_words_removed : ℕ → AnyStore → Option (List ℕ)
+any_words_removed k (Slots t) = None
+any_words_removed k (Nowhere a) = None
+any_words_removed k (Words j) = Some (words_removed k j.words.items)
+any_words_removed k (SavedSlots s) = None
+any_words_removed k (SavedNowhere s) = None
+any_words_removed k (SavedWords s) = Some (words_removed k s.store.words.items)
+
+abbrev pub any_words_cleared : AnyStore → Option (List ℕ)
+any_words_cleared (Slots t) = None
+any_words_cleared (Nowhere a) = None
+any_words_cleared (Words j) = Some (words_cleared j.words.items)
+any_words_cleared (SavedSlots s) = None
+any_words_cleared (SavedNowhere s) = None
+any_words_cleared (SavedWords s) = Some (words_cleared s.store.words.items)

@@ -3,7 +3,7 @@ ghost use Rattle.std.specs.Prelude.{◌≡◌, true, Some};
 ghost use Rattle.std.specs.Option.{option_map};
 ghost use Rattle.layer.specs.Settings.{value_under};
 ghost use Rattle.layer.specs.Stores.{put_answer, remove_answer, clear_answer, after_put, after_remove, after_clear};
-ghost use Rattle.any_store.specs.Any.{any_settings, any_usable, any_kind, is_saved, any_words};
+ghost use Rattle.any_store.specs.Any.{any_settings, any_usable, any_kind, is_saved, any_words, any_words_put, any_words_removed, any_words_cleared};
 ghost use Rattle.any_store.specs.declared.any.AnyStore.TheVariants.{Slots, Nowhere, Words, SavedSlots, SavedNowhere, SavedWords};
 ghost use Rattle.store.specs.SlotsLemmas.{ascends_settings, value_sound, table_shows};
 ghost use Rattle.journal.specs.JournalLemmas.{held_ascends, held_sound, held_shows};
@@ -85,6 +85,14 @@ impl Layer for AnyStore {
 impl Store for AnyStore {
     ghost usable = { any_usable };
 
+    ghost memory = { any_words };
+
+    ghost memory_put = { any_words_put };
+
+    ghost memory_removed = { any_words_removed };
+
+    ghost memory_cleared = { any_words_cleared };
+
     ghost shows = { elim [
       | Slots t ↦ table_shows t.slots t.whole t.distinct
       | Nowhere a ↦ nothing_shows
@@ -103,6 +111,7 @@ impl Store for AnyStore {
         ensures after { any_settings self.new ≡ after_put result key value (any_settings self.old) }
         ensures mark { any_usable self.new ≡ any_usable self.old }
         ensures kind { any_kind self.new ≡ any_kind self.old }
+        ensures words { any_words self.new ≡ any_words_put key value self.old }
         ensures spared { is_saved self.old ≡ true → value_under key (any_settings self.old) ≡ Some value → self.new ≡ self.old }
     {
         at_each!(self, store => store.put(key, value))
@@ -113,6 +122,7 @@ impl Store for AnyStore {
         ensures after { any_settings self.new ≡ after_remove result key (any_settings self.old) }
         ensures mark { any_usable self.new ≡ any_usable self.old }
         ensures kind { any_kind self.new ≡ any_kind self.old }
+        ensures words { any_words self.new ≡ any_words_removed key self.old }
     {
         at_each!(self, store => store.remove(key))
     }
@@ -122,6 +132,7 @@ impl Store for AnyStore {
         ensures after { any_settings self.new ≡ after_clear result (any_settings self.old) }
         ensures mark { any_usable self.new ≡ any_usable self.old }
         ensures kind { any_kind self.new ≡ any_kind self.old }
+        ensures words { any_words self.new ≡ any_words_cleared self.old }
     {
         at_each!(self, store => store.clear())
     }

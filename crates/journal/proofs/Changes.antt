@@ -18,8 +18,8 @@ use Rattle.layer.proofs.Stores.{setting_from}
 use Rattle.layer.proofs.Walking.{above_zero}
 use Rattle.journal.specs.declared.fault.JournalFault.{JournalFault}
 use Rattle.journal.specs.Words.{blank, removal_word, setting_words}
-use Rattle.journal.specs.Inspecting.{any_record, progress, after_words, inspected, held_in, is_accepted}
-use Rattle.journal.specs.Writing.{records_of, filled, used_in, recorded, Change, Written}
+use Rattle.journal.specs.Inspecting.{any_record, progress, after_words, inspected, held_or_none, held_in, is_accepted}
+use Rattle.journal.specs.Writing.{records_of, filled, used_in, recorded, words_put, words_removed, Change, Written}
 use Rattle.journal.proofs.Records.{read_none, read_setting, read_removal}
 use Rattle.journal.proofs.Settings.{above_without, all_settings, all_without, length_without, without_twice, few_others, with_without}
 use Rattle.journal.proofs.Buffers.{used_le, none_setting, none_removal, records_few, setting_few, accepted, settled_with, appended, rewritten}
@@ -136,27 +136,28 @@ remove_change t ws used ss k x e counted granted now by =
 
 -- and what they write
 
-pub put_recorded : (t : SlotTable) (ws new : List ℕ) (ss : List Setting) (k v : ℕ) (rs : List ℕ) → new ≡ recorded rs (without k ss) rs ws → settings_of t.slots ≡ held_in ws
-    → ss ≡ with_value k v (settings_of t.slots) → rs ≡ setting_words k v → new ≡ recorded (setting_words k v) (without k (held_in ws)) (setting_words k v) ws
-put_recorded t ws new ss k v rs e held now by =
+pub put_recorded : (t : SlotTable) (ws new : List ℕ) (ss : List Setting) (k v : ℕ) (rs : List ℕ) → new ≡ recorded rs (without k ss) rs ws → inspected ws ≡ Ok (settings_of t.slots)
+    → Ok tt ≡ put_answer true k v (settings_of t.slots) → ss ≡ with_value k v (settings_of t.slots) → rs ≡ setting_words k v → new ≡ words_put k v ws
+put_recorded t ws new ss k v rs e read granted now by =
+    let held : settings_of t.slots ≡ held_in ws = sym (ap held_or_none read) in
+    let can : is_ok (put_answer (is_accepted ws) k v (held_in ws)) ≡ true = ap (λ r. is_ok (put_answer (is_ok r) k v (held_or_none r))) read ∙ sym (ap is_ok granted) in
     e ∙ ap (λ (xs : List Setting). recorded rs xs rs ws) (ap (without k) now ∙ without_with_same k v (settings_of t.slots) ∙ ap (without k) held) ∙ ap (λ (r : List ℕ). recorded r (without k (held_in ws)) r ws) by
+    ∙ sym (cond-true _ _ _ can)
 
-pub remove_recorded : (t : SlotTable) (ws new : List ℕ) (ss : List Setting) (k w : ℕ) (o : Option ℕ) → new ≡ recorded (w ∷ []) (without k ss) [] ws → settings_of t.slots ≡ held_in ws
-    → ss ≡ without k (settings_of t.slots) → w ≡ removal_word k → o ≡ value_under k (settings_of t.slots) → true ≡ is_some o
-    → new ≡ cond (is_some (value_under k (held_in ws))) (recorded (removal_word k ∷ []) (without k (held_in ws)) [] ws) ws
-remove_recorded t ws new ss k w o e held now by is some =
+pub remove_recorded : (t : SlotTable) (ws new : List ℕ) (ss : List Setting) (k w : ℕ) (o : Option ℕ) → new ≡ recorded (w ∷ []) (without k ss) [] ws → inspected ws ≡ Ok (settings_of t.slots)
+    → Ok tt ≡ remove_answer true k → ss ≡ without k (settings_of t.slots) → w ≡ removal_word k → o ≡ value_under k (settings_of t.slots) → true ≡ is_some o
+    → new ≡ words_removed k ws
+remove_recorded t ws new ss k w o e read granted now by is some =
+    let held : settings_of t.slots ≡ held_in ws = sym (ap held_or_none read) in
+    let can : is_ok (remove_answer (is_accepted ws) k) ≡ true = ap (λ r. is_ok (remove_answer (is_ok r) k)) read ∙ sym (ap is_ok granted) in
     let there : is_some (value_under k (held_in ws)) ≡ true = ap (λ (xs : List Setting). is_some (value_under k xs)) (sym held) ∙ ap is_some (sym is) ∙ sym some in
     e ∙ ap (λ (xs : List Setting). recorded (w ∷ []) xs [] ws) (ap (without k) now ∙ without_twice k (settings_of t.slots) ∙ ap (without k) held) ∙ ap (λ r. recorded (r ∷ []) (without k (held_in ws)) [] ws) by
-    ∙ sym (cond-true _ _ _ there)
+    ∙ sym (cond-true _ _ _ there) ∙ sym (cond-true _ _ _ can)
 
 -- nothing is removed where nothing is held
 pub not_held : (k : ℕ) (ss now : List Setting) (o : Option ℕ) → now ≡ without k ss → o ≡ value_under k ss → false ≡ is_some o → now ≡ ss
 not_held k ss now None e is none = e ∙ without_none k ss (sym is)
 not_held k ss now (Some v) e is none = absurd (true≢false (sym none))
-
-pub not_written : (t : SlotTable) (ws : List ℕ) (k : ℕ) (o : Option ℕ) (rest : List ℕ) → settings_of t.slots ≡ held_in ws → o ≡ value_under k (settings_of t.slots) → false ≡ is_some o
-    → ws ≡ cond (is_some (value_under k (held_in ws))) rest ws
-not_written t ws k o rest held is none = sym (cond-false _ _ _ (ap (λ (xs : List Setting). is_some (value_under k xs)) (sym held) ∙ ap is_some (sym is) ∙ sym none))
 
 -- all words blank
 pub blank_all : (ws new : List ℕ) → is_accepted ws ≡ true → new ≡ replicate (length ws) blank → Written new [] 0

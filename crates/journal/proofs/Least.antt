@@ -2,18 +2,19 @@
 use Rattle.std.proofs.Common.{◌≡◌, ℕ, suc, ◌+◌, ◌-◌, ◌≤◌, Bool, true, false, cond, List, [], ◌∷◌, length, Some, None, Ok, Err, Option, Result, ◌==◌, ◌≢◌, refl, sym, ap, ◌∙◌, arith}
 use Rattle.std.proofs.lemmas.Bool.Decides.{nat_tests}
 use Rattle.std.proofs.lemmas.Bool.{eqb-true}
-use Rattle.item.specs.Keys.{fits_key}
+use Rattle.item.specs.Keys.{well_formed, fits_key}
 use Rattle.layer.specs.declared.setting.Setting.{Setting}
-use Rattle.layer.specs.Settings.{value_under, with_value, without}
-use Rattle.layer.specs.SettingsLemmas.{value_with_other}
+use Rattle.layer.specs.Settings.{is_setting, value_under, with_value, without}
+use Rattle.layer.specs.SettingsLemmas.{value_with_same, value_with_other}
 use Rattle.layer.specs.Stores.{room}
 use Rattle.journal.specs.declared.fault.JournalFault.{JournalFault}
 use Rattle.journal.specs.declared.fault.JournalFault.TheVariants.{Malformed, Unfit, TooMany}
 use Rattle.journal.specs.declared.word.Kind.{Kind}
 use Rattle.journal.specs.declared.word.Kind.TheVariants.{Head, Part, Removal, Blank}
-use Rattle.journal.specs.Words.{blank, kind_of, key_named, part_carried, parts_under, setting_words}
+use Rattle.journal.specs.Words.{blank, kind_of, key_named, part_carried, parts_under, removal_word, setting_words}
 use Rattle.journal.specs.Inspecting.{held_in, Begun, Next, any_record, part_for, only_blanks, Progress, progress, begins, removes, blanks, ends_as, goes_on, with_part, takes_part, word_read, after_words}
 use Rattle.journal.specs.Writing.{used_in, Says, Least}
+use Rattle.journal.proofs.Records.{read_setting, read_removal}
 use Rattle.journal.proofs.Buffers.{length_parts}
 
 -- what a removal leaves
@@ -140,3 +141,13 @@ removal_writes_least k old new before after was is most = record { words = one_l
 
 pub nothing_is_least : (k : ℕ) (old : List ℕ) → Least k None 1 old old
 nothing_is_least k old = record { words = one_least k None (held_in old); used = omega arith }
+
+-- and what it has says so: wherever it is read, a setting's record sets its value, and a removal takes away what is held
+
+pub setting_says : (k v at : ℕ) (ss : List Setting) → is_setting k v ≡ true → room k ss ≡ true → value_under k ss ≢ Some v → Says k (Some v) ss (setting_words k v)
+setting_says k v at ss is can other =
+    record { at = at; after = progress (with_value k v ss) any_record; read = read_setting at k v ss is can; other = other; left = value_with_same k v ss }
+
+pub removal_says : (k at : ℕ) (ss : List Setting) → well_formed k ≡ true → value_under k ss ≢ None → Says k None ss (removal_word k ∷ [])
+removal_says k at ss is other =
+    record { at = at; after = progress (without k ss) any_record; read = read_removal at k ss is; other = other; left = value_gone k ss }

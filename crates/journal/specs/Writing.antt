@@ -2,11 +2,11 @@
 use Rattle.std.specs.Prelude.{◌≡◌, ℕ, suc, ◌+◌, ◌-◌, ◌<◌, ◌≤◌, cond, List, [], ◌∷◌, ◌++◌, length, replicate, is_some, is_ok, Some, None, Ok, Err, Option, Result, ◌==◌, ◌≢◌, nat_le, slice_index_or, MatchOption}
 use Rattle.frame.specs.Written.{patched}
 use Rattle.layer.specs.declared.setting.Setting.{Setting}
-use Rattle.layer.specs.declared.fault.StoreFault.{StoreFault}
 use Rattle.layer.specs.Settings.{value_under, without}
+use Rattle.layer.specs.Stores.{put_answer, remove_answer, clear_answer}
 use Rattle.journal.specs.declared.fault.JournalFault.{JournalFault}
 use Rattle.journal.specs.Words.{blank, removal_word, setting_words}
-use Rattle.journal.specs.Inspecting.{any_record, Progress, progress, after_words, inspected, held_in}
+use Rattle.journal.specs.Inspecting.{any_record, Progress, progress, after_words, inspected, held_in, is_accepted}
 
 -- the records of settings, in their order
 unfoldable pub records_of : List Setting → List ℕ
@@ -34,16 +34,18 @@ abbrev pub recorded : List ℕ → List Setting → List ℕ → List ℕ → Li
 recorded rs others last ws =
     cond (nat_le (used_in ws + length rs) (length ws)) (patched (used_in ws) rs ws) (filled (length ws) (records_of others ++ last))
 
-abbrev pub words_after_put : Result (Unit {0}) StoreFault → ℕ → ℕ → List ℕ → List ℕ
-words_after_put r k v ws = cond (is_ok r) (recorded (setting_words k v) (without k (held_in ws)) (setting_words k v) ws) ws
+-- what each call leaves; a refused one changes no word
+abbrev pub words_put : ℕ → ℕ → List ℕ → List ℕ
+words_put k v ws =
+    cond (is_ok (put_answer (is_accepted ws) k v (held_in ws))) (recorded (setting_words k v) (without k (held_in ws)) (setting_words k v) ws) ws
 
 -- removing what is not held writes nothing
-abbrev pub words_after_remove : Result (Unit {0}) StoreFault → ℕ → List ℕ → List ℕ
-words_after_remove r k ws =
-    cond (is_ok r) (cond (is_some (value_under k (held_in ws))) (recorded (removal_word k ∷ []) (without k (held_in ws)) [] ws) ws) ws
+abbrev pub words_removed : ℕ → List ℕ → List ℕ
+words_removed k ws =
+    cond (is_ok (remove_answer (is_accepted ws) k)) (cond (is_some (value_under k (held_in ws))) (recorded (removal_word k ∷ []) (without k (held_in ws)) [] ws) ws) ws
 
-abbrev pub words_after_clear : Result (Unit {0}) StoreFault → List ℕ → List ℕ
-words_after_clear r ws = cond (is_ok r) (replicate (length ws) blank) ws
+abbrev pub words_cleared : List ℕ → List ℕ
+words_cleared ws = cond (is_ok (clear_answer (is_accepted ws))) (replicate (length ws) blank) ws
 
 -- Words that leave a value under k, or none, where it was otherwise: read behind records that leave ss.
 pub record Says (k : ℕ) (o : Option ℕ) (ss : List Setting) (ws : List ℕ) : Type 0 where

@@ -1,5 +1,5 @@
 -- What a store answers, and what it holds after.
-use Rattle.std.specs.Prelude.{◌≡◌, ℕ, ◌≤◌, Bool, true, false, cond, List, [], length, is_some, is_ok, Some, Ok, Err, Option, Result, nat_lt}
+use Rattle.std.specs.Prelude.{◌≡◌, ℕ, ◌≤◌, Bool, true, false, cond, List, [], length, is_some, is_ok, Some, None, Ok, Err, Option, Result, ◌==◌, nat_lt}
 use Rattle.item.specs.Keys.{well_formed, fits_key}
 use Rattle.layer.specs.declared.setting.Setting.{Setting}
 use Rattle.layer.specs.declared.fault.StoreFault.{StoreFault}
@@ -37,6 +37,11 @@ after_remove r k ss = cond (is_ok r) (without k ss) ss
 
 abbrev pub after_clear : Result (Unit {0}) StoreFault → List Setting → List Setting
 after_clear r ss = cond (is_ok r) [] ss
+
+-- whether v is what is held
+abbrev pub is_held : ℕ → Option ℕ → Bool
+is_held v None = false
+is_held v (Some w) = w == v
 
 -- a mark shows at most 128 settings, and none where it is not usable
 pub record Shows (usable : Bool) (ss : List Setting) : Type 0 where

@@ -1,7 +1,7 @@
 // A saver over any store: it means what the store means, and puts below only a value that differs from the one held there.
-ghost use Rattle.std.specs.Prelude.{◌≡◌, Some};
+ghost use Rattle.std.specs.Prelude.{◌≡◌, cond, Some};
 ghost use Rattle.layer.specs.Settings.{value_under};
-ghost use Rattle.layer.specs.Stores.{put_answer, after_put};
+ghost use Rattle.layer.specs.Stores.{put_answer, after_put, is_held};
 ghost use Rattle.std.proofs.Common.{rules};
 
 use crate::fault::StoreFault;
@@ -31,6 +31,14 @@ impl<S: Store> Layer for Saver<S> {
 impl<S: Store> Store for Saver<S> {
     ghost usable = { λ s. S.Store.usable s.store };
 
+    ghost memory = { λ s. S.Store.memory s.store };
+
+    ghost memory_put = { λ k v s. cond (is_held v (value_under k (S.Layer.settings s.store))) (S.Store.memory s.store) (S.Store.memory_put k v s.store) };
+
+    ghost memory_removed = { λ k s. S.Store.memory_removed k s.store };
+
+    ghost memory_cleared = { λ s. S.Store.memory_cleared s.store };
+
     ghost shows = { Prim.search rules };
 
     fn is_usable(&self) -> bool {
@@ -42,6 +50,7 @@ impl<S: Store> Store for Saver<S> {
         ensures answer { result ≡ put_answer (S.Store.usable self.old.store) key value (S.Layer.settings self.old.store) }
         ensures after { S.Layer.settings self.new.store ≡ after_put result key value (S.Layer.settings self.old.store) }
         ensures mark { S.Store.usable self.new.store ≡ S.Store.usable self.old.store }
+        ensures memory { S.Store.memory self.new.store ≡ cond (is_held value (value_under key (S.Layer.settings self.old.store))) (S.Store.memory self.old.store) (S.Store.memory_put key value self.old.store) }
         ensures spared { value_under key (S.Layer.settings self.old.store) ≡ Some value → self.new.store ≡ self.old.store }
     {
         if self.store.value(key) == Some(value) {

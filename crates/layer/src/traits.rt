@@ -1,5 +1,5 @@
 // What a layer and a store mean: a layer is its settings, and a store is a layer that can be written, with a mark.
-ghost use Rattle.std.specs.Prelude.{◌≡◌, Bool, List};
+ghost use Rattle.std.specs.Prelude.{◌≡◌, ℕ, Bool, List, None, Option};
 ghost use Rattle.layer.specs.declared.setting.Setting.{Setting};
 ghost use Rattle.layer.specs.Settings.{value_under, key_above, Ascends, Sound};
 ghost use Rattle.layer.specs.Stores.{put_answer, remove_answer, clear_answer, after_put, after_remove, after_clear, Shows};
@@ -27,6 +27,15 @@ pub trait Layer {
 pub trait Store: Layer {
     ghost usable: { Self → Bool };
 
+    // The words of the memory that it writes, and those that each call leaves there; none where it has no such memory.
+    ghost memory: { Self → Option (List ℕ) } = { λ _. None };
+
+    ghost memory_put: { ℕ → ℕ → Self → Option (List ℕ) } = { λ _ _ _. None };
+
+    ghost memory_removed: { ℕ → Self → Option (List ℕ) } = { λ _ _. None };
+
+    ghost memory_cleared: { Self → Option (List ℕ) } = { λ _. None };
+
     fn is_usable(&self) -> bool
         ensures value { result ≡ usable self.now }
         ensures shows { Shows result (Self.Layer.settings self.now) };
@@ -36,19 +45,22 @@ pub trait Store: Layer {
     fn put(&mut self, key: u32, value: u64) -> Result<(), StoreFault>
         ensures answer { result ≡ put_answer (usable self.old) key value (Self.Layer.settings self.old) }
         ensures after { Self.Layer.settings self.new ≡ after_put result key value (Self.Layer.settings self.old) }
-        ensures mark { usable self.new ≡ usable self.old };
+        ensures mark { usable self.new ≡ usable self.old }
+        ensures memory { memory self.new ≡ memory_put key value self.old };
 
     // Takes one value away, if it is held.
     fn remove(&mut self, key: u32) -> Result<(), StoreFault>
         ensures answer { result ≡ remove_answer (usable self.old) key }
         ensures after { Self.Layer.settings self.new ≡ after_remove result key (Self.Layer.settings self.old) }
-        ensures mark { usable self.new ≡ usable self.old };
+        ensures mark { usable self.new ≡ usable self.old }
+        ensures memory { memory self.new ≡ memory_removed key self.old };
 
     // Takes all values away.
     fn clear(&mut self) -> Result<(), StoreFault>
         ensures answer { result ≡ clear_answer (usable self.old) }
         ensures after { Self.Layer.settings self.new ≡ after_clear result (Self.Layer.settings self.old) }
-        ensures mark { usable self.new ≡ usable self.old };
+        ensures mark { usable self.new ≡ usable self.old }
+        ensures memory { memory self.new ≡ memory_cleared self.old };
 
     ghost shows: { (s : Self) → Shows (usable s) (Self.Layer.settings s) };
 }

@@ -5,7 +5,7 @@ ghost use Rattle.std.specs.Result.{result_err};
 ghost use Rattle.layer.specs.Stores.{put_answer, remove_answer, clear_answer, after_put, after_remove, after_clear};
 ghost use Rattle.journal.specs.Words.{setting_words};
 ghost use Rattle.journal.specs.Inspecting.{inspected, held_in, is_accepted};
-ghost use Rattle.journal.specs.Writing.{used_in, FirstBlank, Least, words_after_put, words_after_remove, words_after_clear};
+ghost use Rattle.journal.specs.Writing.{used_in, FirstBlank, Least, words_put, words_removed, words_cleared};
 ghost use Rattle.journal.specs.JournalLemmas.{held_ascends, held_sound, held_shows};
 
 use super::Journal;
@@ -111,6 +111,14 @@ impl Layer for Journal {
 impl Store for Journal {
     ghost usable = { λ j. is_accepted j.words.items };
 
+    ghost memory = { λ j. Some j.words.items };
+
+    ghost memory_put = { λ k v j. Some (words_put k v j.words.items) };
+
+    ghost memory_removed = { λ k j. Some (words_removed k j.words.items) };
+
+    ghost memory_cleared = { λ j. Some (words_cleared j.words.items) };
+
     ghost shows = { λ j. held_shows j };
 
     #[tactic(auto, using(crate::specs::JournalLemmas::held_shows))]
@@ -124,7 +132,7 @@ impl Store for Journal {
         ensures answer { result ≡ put_answer (is_accepted self.old.words.items) key value (held_in self.old.words.items) }
         ensures after { held_in self.new.words.items ≡ after_put result key value (held_in self.old.words.items) }
         ensures mark { is_accepted self.new.words.items ≡ is_accepted self.old.words.items }
-        ensures words { self.new.words.items ≡ words_after_put result key value self.old.words.items }
+        ensures words { self.new.words.items ≡ words_put key value self.old.words.items }
         ensures least { OnOk result (Least key (Some value) (length (setting_words key value)) self.old.words.items self.new.words.items) }
     {
         self.check_usable()?;
@@ -146,7 +154,7 @@ impl Store for Journal {
         ensures answer { result ≡ remove_answer (is_accepted self.old.words.items) key }
         ensures after { held_in self.new.words.items ≡ after_remove result key (held_in self.old.words.items) }
         ensures mark { is_accepted self.new.words.items ≡ is_accepted self.old.words.items }
-        ensures words { self.new.words.items ≡ words_after_remove result key self.old.words.items }
+        ensures words { self.new.words.items ≡ words_removed key self.old.words.items }
         ensures least { OnOk result (Least key None 1 self.old.words.items self.new.words.items) }
     {
         self.check_usable()?;
@@ -170,7 +178,7 @@ impl Store for Journal {
         ensures answer { result ≡ clear_answer (is_accepted self.old.words.items) }
         ensures after { held_in self.new.words.items ≡ after_clear result (held_in self.old.words.items) }
         ensures mark { is_accepted self.new.words.items ≡ is_accepted self.old.words.items }
-        ensures words { self.new.words.items ≡ words_after_clear result self.old.words.items }
+        ensures words { self.new.words.items ≡ words_cleared self.old.words.items }
     {
         self.check_usable()?;
         self.held.clear()?;

@@ -6,7 +6,7 @@ use Rattle.journal.proofs.journal.calls.JournalStore.put.Goals as goal
 pub returns-clause-words : goal.returns-clause-words
 returns-clause-words c =
     let put = c.in_ok-put.ensures in
-    put_recorded c.args.self.now.held _ _ _ _ _ _ c.write_change-self.ensures.words c.args.self.now.holds put.after (c.as_slice-words.ensures.value ∙ c.setting_record-record.ensures)
+    put_recorded c.args.self.now.held _ _ _ _ _ _ c.write_change-self.ensures.words c.in_ok-check_usable.ensures.accepted put.answer put.after (c.as_slice-words.ensures.value ∙ c.setting_record-record.ensures)
 
 pub returns-clause-least : goal.returns-clause-least
 returns-clause-least c =

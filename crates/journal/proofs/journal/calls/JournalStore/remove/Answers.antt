@@ -14,7 +14,7 @@ invariant_of-self-then-not-was_held c =
 pub returns-clause-words : goal.returns-clause-words
 returns-clause-words c =
     let removed = c.in_ok-remove.ensures in
-    remove_recorded c.args.self.now.held _ _ _ _ _ _ c.write_change-self.ensures.words c.args.self.now.holds removed.after c.removal_word.ensures c.value.ensures c.if-not-was_held.ensures
+    remove_recorded c.args.self.now.held _ _ _ _ _ _ c.write_change-self.ensures.words c.in_ok-check_usable.ensures.accepted removed.answer removed.after c.removal_word.ensures c.value.ensures c.if-not-was_held.ensures
 
 pub returns-clause-least : goal.returns-clause-least
 returns-clause-least c =
