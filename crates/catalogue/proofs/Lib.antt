@@ -1,1 +1,2 @@
 pub mod Catalogues
+mod Examples

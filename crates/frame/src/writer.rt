@@ -1,11 +1,11 @@
 // Writing a frame into a caller's buffer.
-ghost use Rattle.std.specs.Prelude.{◌≡◌, ◌+◌, ◌≤◌, length, take, is_ok, IfOk, if◌then◌else◌};
+ghost use Rattle.std.specs.Prelude.{◌≡◌, ◌+◌, ◌≤◌, ◌↔◌, length, take, is_ok, IfOk, if◌then◌else◌};
 ghost use Rattle.frame.specs.Frames.{max_payload, size_of, frame_bytes};
 ghost use Rattle.frame.specs.Meaning.{message_of};
 ghost use Rattle.frame.specs.Scanning.{HeardAs};
 ghost use Rattle.frame.specs.Written.{patched, in_front, written};
 
-use crate::format::{Frame, HEADER, MAX_PAYLOAD, PREAMBLE, TRAILER};
+use crate::format::{Frame, HEADER, MAX_FRAME, MAX_PAYLOAD, PREAMBLE, TRAILER};
 use crate::sums::check_bytes;
 use std::error::Error;
 use std::fmt;
@@ -48,11 +48,13 @@ fn put_frame(out: &mut [u8], frame: &Frame<'_>) -> usize
     size
 }
 
-// Writes the frame at the start of the buffer; answers how many bytes it has. A refusal leaves the buffer as it was.
+// Writes the frame at the start of the buffer; answers how many bytes it has. A refusal leaves the buffer as it was. Into MAX_FRAME bytes goes
+// every frame whose payload is not too long, and the longest fills them.
 pub fn write_frame(out: &mut [u8], frame: &Frame<'_>) -> Result<usize, WriteFault>
     ensures value { result ≡ written (message_of frame.now) (length out.old) }
     ensures out { out.new ≡ (if is_ok result then in_front (frame_bytes (message_of frame.now)) out.old else out.old) }
     ensures heard { IfOk result (λ n. HeardAs (message_of frame.now) (take n out.new)) }
+    ensures most { length frame.now.payload.now ≤ MAX_PAYLOAD ↔ size_of (message_of frame.now) ≤ MAX_FRAME }
 {
     if frame.payload.len() > MAX_PAYLOAD {
         return Err(WriteFault::PayloadTooLong);

@@ -3,6 +3,8 @@ use anyhow::bail;
 use options::{Input, for_each_piece};
 use std::alloc::Global;
 use std::fs;
+use std::io;
+use std::io::{ErrorKind, Read};
 use std::rt::HostRuntime;
 use std::test::Fail;
 
@@ -38,4 +40,43 @@ fn a_failure_ends_the_reading(rt: HostRuntime) {
     });
     assert!(rt; read.is_err());
     assert_eq!(rt; calls, 1);
+}
+
+// A reader that fails at its second turn, and then gives one byte more.
+#[derive(Drop)]
+struct Failing {
+    turn: u8,
+    failure: ErrorKind,
+}
+
+impl Read for Failing {
+    fn read(&mut self, piece: &mut [u8]) -> io::Result<usize> {
+        self.turn = self.turn.saturating_add(1);
+        match self.turn {
+            2 => Err(io::Error::from(self.failure)),
+            4 => Ok(0),
+            _ => Ok(piece.len().min(1)),
+        }
+    }
+}
+
+// Whether the reading succeeds, and how many pieces are handed on.
+fn read_past(failure: ErrorKind) -> (bool, u32) {
+    let mut input = Failing { turn: 0, failure };
+    let mut pieces = 0u32;
+    let read = for_each_piece(&mut input, |_piece| {
+        pieces = pieces.saturating_add(1);
+        Ok(())
+    });
+    (read.is_ok(), pieces)
+}
+
+#[test]
+fn a_failed_read_ends_the_reading(rt: HostRuntime) {
+    assert_eq!(rt; read_past(ErrorKind::BrokenPipe), (false, 1));
+}
+
+#[test]
+fn an_interrupted_read_is_made_again(rt: HostRuntime) {
+    assert_eq!(rt; read_past(ErrorKind::Interrupted), (true, 2));
 }
