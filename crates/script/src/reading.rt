@@ -1,5 +1,5 @@
 // A line of a script, read into a command.
-ghost use Rattle.std.specs.Prelude.{◌≡◌, length, IfOk, vec_len};
+ghost use Rattle.script.specs.Lines.{ReadsBytes, ReadsTake, ReadsAnswer, ReadsLook, ReadsRestart, ReadsAlone, ReadsCommand, ReadsLine};
 
 use crate::command::{Choice, Command, Medium, OwnCall, Part, Place};
 use crate::fault::LineFault;
@@ -38,7 +38,9 @@ const MOST_WORDS: usize = 1 << 20;
 const ALONE: &str = "no word behind new or make";
 
 // The command of a line; none where the line is blank or begins with #.
-pub fn read_line(heap: Global, line: &str) -> Result<Option<Command>, LineFault> {
+pub fn read_line(heap: Global, line: &str) -> Result<Option<Command>, LineFault>
+    ensures { ReadsLine line.now result }
+{
     let words: Vec<&str> = line.split_whitespace().collect(heap)?;
     let [name, rest @ ..] = words.as_slice() else {
         return Ok(None);
@@ -49,7 +51,9 @@ pub fn read_line(heap: Global, line: &str) -> Result<Option<Command>, LineFault>
     read_command(heap, name, rest).map(Some)
 }
 
-fn read_command(heap: Global, name: &str, words: &[&str]) -> Result<Command, LineFault> {
+fn read_command(heap: Global, name: &str, words: &[&str]) -> Result<Command, LineFault>
+    ensures { ReadsCommand name.now words.now result }
+{
     match name {
         "new" => alone(words, Command::New),
         "make" => alone(words, Command::Make),
@@ -66,7 +70,9 @@ fn read_command(heap: Global, name: &str, words: &[&str]) -> Result<Command, Lin
     }
 }
 
-fn alone(words: &[&str], command: Command) -> Result<Command, LineFault> {
+fn alone(words: &[&str], command: Command) -> Result<Command, LineFault>
+    ensures { ReadsAlone command words.now result }
+{
     match words {
         [] => Ok(command),
         _ => Err(LineFault::Form(ALONE)),
@@ -138,25 +144,33 @@ fn clear_in(words: &[&str]) -> Result<Part, LineFault> {
     Ok(Part::Clear(place_in(place, CLEAR)?))
 }
 
-fn taking(heap: Global, words: &[&str]) -> Result<OwnCall, LineFault> {
+fn taking(heap: Global, words: &[&str]) -> Result<OwnCall, LineFault>
+    ensures { ReadsTake words.now result }
+{
     Ok(OwnCall::Take(bytes_in(heap, words)?))
 }
 
-fn answering(words: &[&str]) -> Result<OwnCall, LineFault> {
+fn answering(words: &[&str]) -> Result<OwnCall, LineFault>
+    ensures { ReadsAnswer words.now result }
+{
     let [size] = words else {
         return Err(LineFault::Form(ANSWER));
     };
     Ok(OwnCall::Answer(count_in(size)?))
 }
 
-fn looking(words: &[&str]) -> Result<OwnCall, LineFault> {
+fn looking(words: &[&str]) -> Result<OwnCall, LineFault>
+    ensures { ReadsLook words.now result }
+{
     let [layer, key] = words else {
         return Err(LineFault::Form(LOOK));
     };
     Ok(OwnCall::Look(layer_in(layer)?, key_in(key)?))
 }
 
-fn restarting(words: &[&str]) -> Result<OwnCall, LineFault> {
+fn restarting(words: &[&str]) -> Result<OwnCall, LineFault>
+    ensures { ReadsRestart words.now result }
+{
     match words {
         ["kept"] => Ok(OwnCall::Restart(Battery::Kept)),
         ["lost"] => Ok(OwnCall::Restart(Battery::Lost)),
@@ -196,7 +210,7 @@ fn words_in(heap: Global, words: &[&str]) -> Result<Vec<u32>, LineFault> {
 
 // A byte for each word.
 fn bytes_in(heap: Global, words: &[&str]) -> Result<Vec<u8>, LineFault>
-    ensures { IfOk result (λ v. vec_len v ≡ length words.now) }
+    ensures { ReadsBytes words.now result }
 {
     let mut bytes = Vec::new(heap);
     for word in words {
