@@ -1,5 +1,5 @@
 -- The calls of a script: what the words behind each are read as, and what is said of others.
-use Rattle.std.specs.Prelude.{◌≡◌, ℕ, ◌-◌, ◌<◌, ◌≢◌, ◌⊎◌, List, [], map, length, drop, slice_index, slice_index_or, codes, IsOk, IfErr, IsErrAnd, IsErrOf, ⊤, Some, None, Ok, Err, Option, Result, vec_items, MatchResult, Vec}
+use Rattle.std.specs.Prelude.{◌≡◌, ℕ, ◌-◌, ◌^◌, ◌<◌, ◌≤◌, ◌≢◌, ◌⊎◌, List, [], map, length, drop, slice_index, slice_index_or, codes, IsOk, IfOk, IfErr, IsErrAnd, IsErrOf, ⊤, Some, None, Ok, Err, Option, Result, vec_items, vec_len, MatchResult, Vec}
 use Rattle.std.specs.Borrow.{Bor}
 use Rattle.std.specs.declared.alloc.Global.{Global}
 use Rattle.std.specs.Iterator.{DrainsIf}
@@ -11,11 +11,15 @@ use Rattle.script.specs.declared.command.Command.{Command}
 use Rattle.script.specs.declared.command.Command.TheVariants.{Call, New, Make}
 use Rattle.script.specs.declared.command.OwnCall.{OwnCall}
 use Rattle.script.specs.declared.command.OwnCall.TheVariants.{Take, Answer, Look, Restart}
+use Rattle.script.specs.declared.command.Part.{Part}
+use Rattle.script.specs.declared.command.Part.TheVariants.{Put, Remove, Clear}
+use Rattle.script.specs.declared.command.Place.{Place}
+use Rattle.script.specs.declared.command.Place.TheVariants.{Bbr, Flash}
 use Rattle.script.specs.declared.fault.LineFault.{LineFault}
 use Rattle.script.specs.declared.fault.LineFault.TheVariants.{Form, NoByte, NoMemory}
-use Rattle.script.specs.declared.reading.TheConstants.{ANSWER, LOOK, RESTART, ALONE}
+use Rattle.script.specs.declared.reading.TheConstants.{ANSWER, LOOK, RESTART, ALONE, MOST_WORDS}
 use Rattle.script.specs.Numbers.{number_in, up_to}
-use Rattle.script.specs.Fields.{reading, count_read, layer_read, key_read}
+use Rattle.script.specs.Fields.{reading, count_read, layer_read, key_read, value_read}
 
 -- a `&[&str]`
 abbrev pub Words : Type 0
@@ -43,6 +47,51 @@ ReadsBytes words r = MatchResult r (λ v. map Some (vec_items v) ≡ map byte_of
 
 abbrev pub ReadsTake : Words → Result OwnCall LineFault → Type 0
 ReadsTake words r = MatchResult r (λ c. (v : Vec ℕ Global) × (c ≡ Take v) × (map Some (vec_items v) ≡ map byte_of words)) (NoBytes words)
+
+-- a place by its name
+abbrev pub IsPlace : List ℕ → Place → Type 0
+IsPlace text Bbr = text ≡ codes "bbr"
+IsPlace text Flash = text ≡ codes "flash"
+
+-- a name, or the form is told
+abbrev pub ReadsPlace : List ℕ → List ℕ → Result Place LineFault → Type 0
+ReadsPlace form text r = MatchResult r (IsPlace text) (λ f. IsForm form f × (text ≢ codes "bbr") × (text ≢ codes "flash"))
+
+-- a value to be put, a key to be removed, a store to be cleared, and one whose words are shown
+pub record IsPut (words : Words) (place : Place) (key value : ℕ) : Type 0 where
+  pub long : length words ≡ 3
+  pub place_is : IsPlace (word words 0) place
+  pub key_is : key_read (word words 1) ≡ Ok key
+  pub value_is : value_read (word words 2) ≡ Ok value
+
+pub record IsRemove (words : Words) (place : Place) (key : ℕ) : Type 0 where
+  pub long : length words ≡ 2
+  pub place_is : IsPlace (word words 0) place
+  pub key_is : key_read (word words 1) ≡ Ok key
+
+abbrev pub ReadsPut : Words → Result Part LineFault → Type 0
+ReadsPut words r = IfOk r (λ c. (p : Place) × (k : ℕ) × (v : ℕ) × (c ≡ Put p k v) × IsPut words p k v)
+
+abbrev pub ReadsRemove : Words → Result Part LineFault → Type 0
+ReadsRemove words r = IfOk r (λ c. (p : Place) × (k : ℕ) × (c ≡ Remove p k) × IsRemove words p k)
+
+abbrev pub ReadsClear : Words → Result Part LineFault → Type 0
+ReadsClear words r = IfOk r (λ c. (p : Place) × (c ≡ Clear p) × (length words ≡ 1) × IsPlace (word words 0) p)
+
+abbrev pub ReadsShown : Words → Result Place LineFault → Type 0
+ReadsShown words r = IfOk r (λ p. (length words ≡ 1) × IsPlace (word words 0) p)
+
+-- the word of a journal that a word is
+abbrev pub word_of : Bor (List ℕ) → Option ℕ
+word_of w = up_to (2 ^ 32 - 1) (number_in 16 w.now)
+
+-- a word of a journal for each word
+abbrev pub ReadsGiven : Words → Result (Vec ℕ Global) LineFault → Type 0
+ReadsGiven words r = IfOk r (λ v. map Some (vec_items v) ≡ map word_of words)
+
+-- a buffer has as many words as its count says
+abbrev pub ReadsBuffer : Words → Result (Vec ℕ Global) LineFault → Type 0
+ReadsBuffer words r = IfOk r (λ v. (count_read (word words 0) ≡ Ok (vec_len v)) × (vec_len v ≤ MOST_WORDS))
 
 -- one word, a count
 pub record ReadsAnswer (words : Words) (r : Result OwnCall LineFault) : Type 0 where

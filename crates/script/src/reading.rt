@@ -1,5 +1,5 @@
 // A line of a script, read into a command.
-ghost use Rattle.script.specs.Lines.{ReadsBytes, ReadsTake, ReadsAnswer, ReadsLook, ReadsRestart, ReadsAlone, ReadsCommand, ReadsLine};
+ghost use Rattle.script.specs.Lines.{ReadsBytes, ReadsTake, ReadsAnswer, ReadsLook, ReadsRestart, ReadsAlone, ReadsCommand, ReadsLine, ReadsPlace, ReadsPut, ReadsRemove, ReadsClear, ReadsShown, ReadsGiven, ReadsBuffer};
 
 use crate::command::{Choice, Command, Medium, OwnCall, Part, Place};
 use crate::fault::LineFault;
@@ -123,21 +123,27 @@ fn medium_in(heap: Global, words: &[&str]) -> Result<Medium, LineFault> {
     }
 }
 
-fn put_in(words: &[&str]) -> Result<Part, LineFault> {
+fn put_in(words: &[&str]) -> Result<Part, LineFault>
+    ensures { ReadsPut words.now result }
+{
     let [place, key, value] = words else {
         return Err(LineFault::Form(PUT));
     };
     Ok(Part::Put(place_in(place, PUT)?, key_in(key)?, value_in(value)?))
 }
 
-fn remove_in(words: &[&str]) -> Result<Part, LineFault> {
+fn remove_in(words: &[&str]) -> Result<Part, LineFault>
+    ensures { ReadsRemove words.now result }
+{
     let [place, key] = words else {
         return Err(LineFault::Form(REMOVE));
     };
     Ok(Part::Remove(place_in(place, REMOVE)?, key_in(key)?))
 }
 
-fn clear_in(words: &[&str]) -> Result<Part, LineFault> {
+fn clear_in(words: &[&str]) -> Result<Part, LineFault>
+    ensures { ReadsClear words.now result }
+{
     let [place] = words else {
         return Err(LineFault::Form(CLEAR));
     };
@@ -178,7 +184,9 @@ fn restarting(words: &[&str]) -> Result<OwnCall, LineFault>
     }
 }
 
-fn showing(words: &[&str]) -> Result<Place, LineFault> {
+fn showing(words: &[&str]) -> Result<Place, LineFault>
+    ensures { ReadsShown words.now result }
+{
     let [place] = words else {
         return Err(LineFault::Form(WORDS));
     };
@@ -186,7 +194,9 @@ fn showing(words: &[&str]) -> Result<Place, LineFault> {
 }
 
 // A buffer of as many words as the first number says: those that are given, as far as there is room, and blanks behind them.
-fn buffer_in(heap: Global, words: &[&str], form: &'static str) -> Result<Vec<u32>, LineFault> {
+fn buffer_in(heap: Global, words: &[&str], form: &'static str) -> Result<Vec<u32>, LineFault>
+    ensures { ReadsBuffer words.now result }
+{
     let [count, given @ ..] = words else {
         return Err(LineFault::Form(form));
     };
@@ -200,7 +210,9 @@ fn buffer_in(heap: Global, words: &[&str], form: &'static str) -> Result<Vec<u32
 }
 
 // A word of a journal for each word of the line.
-fn words_in(heap: Global, words: &[&str]) -> Result<Vec<u32>, LineFault> {
+fn words_in(heap: Global, words: &[&str]) -> Result<Vec<u32>, LineFault>
+    ensures { ReadsGiven words.now result }
+{
     let mut read = Vec::new(heap);
     for word in words {
         read.push(read_word(word).ok_or(LineFault::NoWord)?)?;
@@ -219,7 +231,9 @@ fn bytes_in(heap: Global, words: &[&str]) -> Result<Vec<u8>, LineFault>
     Ok(bytes)
 }
 
-fn place_in(word: &str, form: &'static str) -> Result<Place, LineFault> {
+fn place_in(word: &str, form: &'static str) -> Result<Place, LineFault>
+    ensures { ReadsPlace form.now word.now result }
+{
     match word {
         "bbr" => Ok(Place::Bbr),
         "flash" => Ok(Place::Flash),
