@@ -8,11 +8,12 @@ use Rattle.std.specs.declared.str.SplitWhitespace.{SplitWhitespace}
 use Rattle.reference.specs.declared.call.Battery.{Battery}
 use Rattle.reference.specs.declared.call.Battery.TheVariants.{Kept, Lost}
 use Rattle.script.specs.declared.command.Command.{Command}
-use Rattle.script.specs.declared.command.Command.TheVariants.{Call, New, Make}
+use Rattle.script.specs.declared.command.Command.TheVariants.{Call, New, Make, SetUp, Words as Shown}
 use Rattle.script.specs.declared.command.OwnCall.{OwnCall}
 use Rattle.script.specs.declared.command.OwnCall.TheVariants.{Take, Answer, Look, Restart}
 use Rattle.script.specs.declared.command.Part.{Part}
-use Rattle.script.specs.declared.command.Part.TheVariants.{Put, Remove, Clear}
+use Rattle.script.specs.declared.command.Part.TheVariants.{Store, Put, Remove, Clear}
+use Rattle.script.specs.declared.command.Choice.{Choice}
 use Rattle.script.specs.declared.command.Place.{Place}
 use Rattle.script.specs.declared.command.Place.TheVariants.{Bbr, Flash}
 use Rattle.script.specs.declared.fault.LineFault.{LineFault}
@@ -115,6 +116,19 @@ pub record ReadsAlone (command : Command) (words : Words) (r : Result Command Li
   pub none : length words ≡ 0 → r ≡ Ok command
   pub others : length words ≢ 0 → IsErrAnd r (IsForm ALONE.now)
 
+-- the words behind the name of a part of a set-up
+pub record ReadsPart (name : List ℕ) (words : Words) (r : Result Part LineFault) : Type 0 where
+  pub put : name ≡ codes "put" → ReadsPut words r
+  pub remove : name ≡ codes "remove" → ReadsRemove words r
+  pub clear : name ≡ codes "clear" → ReadsClear words r
+  pub bbr : name ≡ codes "bbr" → IfOk r (λ c. (w : Choice) × (c ≡ Store Bbr w))
+  pub flash : name ≡ codes "flash" → IfOk r (λ c. (w : Choice) × (c ≡ Store Flash w))
+
+-- a command that is such a part
+abbrev pub IsPart : (Result Part LineFault → Type 0) → Result Command LineFault → Type 0
+IsPart Reads (Ok c) = (p : Part) × (c ≡ SetUp p) × Reads (Ok p)
+IsPart Reads (Err f) = Unit {0}
+
 -- a command that is a call, or what is said of its words
 abbrev pub IsCall : (Result OwnCall LineFault → Type 0) → Result Command LineFault → Type 0
 IsCall Reads (Ok c) = (o : OwnCall) × (c ≡ Call o) × Reads (Ok o)
@@ -128,6 +142,12 @@ pub record ReadsCommand (name : List ℕ) (words : Words) (r : Result Command Li
   pub restart : name ≡ codes "restart" → IsCall (ReadsRestart words) r
   pub new : name ≡ codes "new" → ReadsAlone New words r
   pub make : name ≡ codes "make" → ReadsAlone Make words r
+  pub put : name ≡ codes "put" → IsPart (ReadsPut words) r
+  pub remove : name ≡ codes "remove" → IsPart (ReadsRemove words) r
+  pub clear : name ≡ codes "clear" → IsPart (ReadsClear words) r
+  pub bbr : name ≡ codes "bbr" → IsPart (ReadsPart (codes "bbr") words) r
+  pub flash : name ≡ codes "flash" → IsPart (ReadsPart (codes "flash") words) r
+  pub shown : name ≡ codes "words" → IfOk r (λ c. (p : Place) × (c ≡ Shown p) × ReadsShown words (Ok p))
   pub calls : (o : OwnCall) → r ≡ Ok (Call o) → (name ≡ codes "take") ⊎ ((name ≡ codes "answer") ⊎ ((name ≡ codes "look") ⊎ (name ≡ codes "restart")))
 
 -- the same of a line that is no note

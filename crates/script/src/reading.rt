@@ -1,5 +1,8 @@
 // A line of a script, read into a command.
-ghost use Rattle.script.specs.Lines.{ReadsBytes, ReadsTake, ReadsAnswer, ReadsLook, ReadsRestart, ReadsAlone, ReadsCommand, ReadsLine, ReadsPlace, ReadsPut, ReadsRemove, ReadsClear, ReadsShown, ReadsGiven, ReadsBuffer};
+ghost use Rattle.std.specs.Prelude.{◌≡◌, IfOk};
+ghost use Rattle.script.specs.declared.command.Choice.{Choice};
+ghost use Rattle.script.specs.declared.command.Part.TheVariants.{Store};
+ghost use Rattle.script.specs.Lines.{ReadsBytes, ReadsTake, ReadsAnswer, ReadsLook, ReadsRestart, ReadsAlone, ReadsCommand, ReadsLine, ReadsPlace, ReadsPart, ReadsPut, ReadsRemove, ReadsClear, ReadsShown, ReadsGiven, ReadsBuffer};
 
 use crate::command::{Choice, Command, Medium, OwnCall, Part, Place};
 use crate::fault::LineFault;
@@ -79,7 +82,9 @@ fn alone(words: &[&str], command: Command) -> Result<Command, LineFault>
     }
 }
 
-fn read_part(heap: Global, name: &str, words: &[&str]) -> Result<Part, LineFault> {
+fn read_part(heap: Global, name: &str, words: &[&str]) -> Result<Part, LineFault>
+    ensures { ReadsPart name.now words.now result }
+{
     match name {
         "entry" => entry_in(words),
         "need" => need_in(words),
@@ -106,7 +111,9 @@ fn need_in(words: &[&str]) -> Result<Part, LineFault> {
     Ok(Part::Need(read_need(first, second)?))
 }
 
-fn store_in(heap: Global, place: Place, words: &[&str]) -> Result<Part, LineFault> {
+fn store_in(heap: Global, place: Place, words: &[&str]) -> Result<Part, LineFault>
+    ensures { IfOk result (λ c. (w : Choice) × (c ≡ Store place w)) }
+{
     let choice = match words {
         ["saver", under @ ..] => Choice::Saved(medium_in(heap, under)?),
         _ => Choice::Bare(medium_in(heap, words)?),
