@@ -3,6 +3,7 @@ ghost use Rattle.std.specs.Prelude.{◌≡◌};
 ghost use Rattle.catalogue.specs.Owned.{entries_of};
 ghost use Rattle.reference.specs.Receiver.{written_one, written, after_battery};
 ghost use Rattle.request.specs.Changes.{change_of, changes_by, slots_of};
+ghost use Rattle.configuration.specs.Meaning.{SameIfKept};
 
 use crate::meaning::StoreMeaning;
 use crate::writing::{clear_all, put_value, remove_value};
@@ -32,9 +33,10 @@ pub fn apply_changes<S: Store>(catalogue: &Catalogue, changes: &ItemChanges, sto
     }
 }
 
-// A store that the battery keeps: cleared where it was lost.
+// A store that the battery keeps: cleared where it was lost, else not written to.
 pub fn after_battery<S: Store>(battery: Battery, store: &mut S)
-    ensures { ⟦<S as StoreMeaning>⟧.store store.new ≡ after_battery battery (⟦<S as StoreMeaning>⟧.store store.old) }
+    ensures same { SameIfKept battery store.old store.new }
+    ensures after { ⟦<S as StoreMeaning>⟧.store store.new ≡ after_battery battery (⟦<S as StoreMeaning>⟧.store store.old) }
 {
     match battery {
         Battery::Kept => {}

@@ -6,3 +6,4 @@ pub mod Buffers
 pub mod Walking
 pub mod Changes
 pub mod Least
+pub mod Says

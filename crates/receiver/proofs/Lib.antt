@@ -9,3 +9,4 @@ pub mod Lent
 pub mod Made
 pub mod Planning
 pub mod Small
+pub mod Says

@@ -5,6 +5,8 @@ use Rattle.reference.specs.Events.{Event as Happened}
 use Rattle.reference.specs.Parts.{Parts, parts_fault}
 use Rattle.reference.specs.Receiver.{State, Run, run}
 use Rattle.reference.specs.Law.{Law}
+use Rattle.receiver.specs.declared.state.Receiver.{Receiver}
+use Rattle.receiver.specs.State.{items_of}
 use Rattle.replay.specs.declared.event.Event.{Event}
 use Rattle.replay.specs.declared.event.Event.TheVariants.{Took, Answered, Looked, Restarted, Refused}
 use Rattle.replay.specs.declared.unlogged.Unlogged.{Unlogged}
@@ -37,3 +39,8 @@ pub record Replays (p : Parts) (calls : List Asking) (log : List Event) (left : 
   pub history : history_of log ≡ (run p calls).history
   pub state : left ≡ (run p calls).state
   pub law : parts_fault p ≡ None → Law p (history_of log) left.ram.settings left.bbr.settings left.flash.settings
+
+-- The receiver that is left has the catalogue and the rule of which it was made.
+pub record StandsOn {B F R : Type 0} (p : Parts) (rule : R) (r : Receiver B F R) : Type 0 where
+  pub items : parts_fault p ≡ None → items_of r ≡ p.catalogue
+  pub same_rule : r.rule ≡ rule

@@ -3,7 +3,7 @@ ghost use Rattle.std.specs.Prelude.{◌≡◌, [], map, IfOk};
 ghost use Rattle.reference.specs.Events.{asking_of, answer_into};
 ghost use Rattle.reference.specs.Receiver.{run_from};
 ghost use Rattle.receiver.specs.State.{items_of, Kept};
-ghost use Rattle.replay.specs.Logs.{event_of, run_of, LoggedAs, Replays};
+ghost use Rattle.replay.specs.Logs.{event_of, run_of, LoggedAs, Replays, StandsOn};
 ghost use Rattle.replay.specs.Seen.{SeesFrom, SeesRun};
 
 use crate::event::{Answering, Event};
@@ -88,6 +88,7 @@ impl<B: Store + Drop, F: Store + Drop, R: Rule + Drop> Replaying<B, F, R> {
     ) -> Result<Replayed<'a, B, F, R>, AllocError>
         ensures log { IfOk result (λ x. run_of x.log.items (⟦<Receiver<B, F, R> as Meaning>⟧.state x.receiver) ≡ run_from (items_of self.receiver) (R.Rule.finding self.receiver.rule) (record { state = ⟦<Receiver<B, F, R> as Meaning>⟧.state self.receiver; history = [] }) (map asking_of calls.now)) }
         ensures seen { IfOk result (λ _. SeesFrom W.Watch.saw (items_of self.receiver) (R.Rule.finding self.receiver.rule) (⟦<Receiver<B, F, R> as Meaning>⟧.state self.receiver) (map asking_of calls.now) watch.old watch.new) }
+        ensures kept { IfOk result (λ x. Kept self.receiver x.receiver) }
     {
         let mut log = Vec::new(self.heap);
         watch.see(&self.receiver)?;
@@ -110,7 +111,8 @@ pub fn replay<'a, B: Store + Drop, F: Store + Drop, R: Rule + Drop>(
     parts: Parts<B, F, R>,
     calls: &[Call<'a>],
 ) -> Result<Replayed<'a, B, F, R>, AllocError>
-    ensures { IfOk result (λ x. Replays (⟦<Parts<B, F, R> as PartsMeaning>⟧.with parts entries.now) (map asking_of calls.now) x.log.items (⟦<Receiver<B, F, R> as Meaning>⟧.state x.receiver)) }
+    ensures log { IfOk result (λ x. Replays (⟦<Parts<B, F, R> as PartsMeaning>⟧.with parts entries.now) (map asking_of calls.now) x.log.items (⟦<Receiver<B, F, R> as Meaning>⟧.state x.receiver)) }
+    ensures parts { IfOk result (λ x. StandsOn (⟦<Parts<B, F, R> as PartsMeaning>⟧.with parts entries.now) parts.rule x.receiver) }
 {
     replay_watched(heap, entries, parts, calls, &mut Unwatched)
 }
@@ -125,6 +127,7 @@ pub fn replay_watched<'a, B: Store + Drop, F: Store + Drop, R: Rule + Drop, W: W
 ) -> Result<Replayed<'a, B, F, R>, AllocError>
     ensures log { IfOk result (λ x. Replays (⟦<Parts<B, F, R> as PartsMeaning>⟧.with parts entries.now) (map asking_of calls.now) x.log.items (⟦<Receiver<B, F, R> as Meaning>⟧.state x.receiver)) }
     ensures seen { IfOk result (λ _. SeesRun W.Watch.saw (⟦<Parts<B, F, R> as PartsMeaning>⟧.with parts entries.now) (map asking_of calls.now) watch.old watch.new) }
+    ensures parts { IfOk result (λ x. StandsOn (⟦<Parts<B, F, R> as PartsMeaning>⟧.with parts entries.now) parts.rule x.receiver) }
 {
     let receiver = Receiver::make(entries, parts);
     Replaying { heap, receiver }.log_all(calls, watch)

@@ -1,6 +1,6 @@
 // A request, and the head of its payload: which layers and which action it names, and the checks of the head of a set or delete.
-ghost use Rattle.std.specs.Prelude.{◌≡◌, Ok, slice_index};
-ghost use Rattle.reference.specs.Requests.{layers_of, same_layers, action_of};
+ghost use Rattle.std.specs.Prelude.{◌≡◌, ◌||◌, ◌==◌, Ok, slice_index};
+ghost use Rattle.reference.specs.Requests.{configuration_class, valset, valget, valdel, layers_of, same_layers, action_of};
 ghost use Rattle.request.specs.Head.{head_refusal, joining_refusal, after_head};
 ghost use Rattle.request.specs.Actions.{action_number};
 
@@ -20,6 +20,28 @@ pub const VALDEL: u8 = 0x8c;
 
 // The bytes before the data: version, layers, action, and one that is not read.
 pub const HEAD: usize = 4;
+
+// Whether a frame's class is that of the three requests.
+pub fn is_configuration(class: u8) -> bool
+    ensures { result ≡ (class == configuration_class) }
+{
+    class == CONFIGURATION_CLASS
+}
+
+// Whether an ID is that of one of the three requests.
+// kept: `Request` is public and takes any ID, since `layers`, `action` and `read_data` promise something of each; so the ID is a byte here too
+pub fn is_request(id: u8) -> bool
+    ensures { result ≡ (id == valset || (id == valget || id == valdel)) }
+{
+    matches!(id, VALSET | VALGET | VALDEL)
+}
+
+// Whether an ID is that of a get.
+pub fn is_get(id: u8) -> bool
+    ensures { result ≡ (id == valget) }
+{
+    id == VALGET
+}
 
 // A request as it is heard: a frame of the configuration class.
 #[derive(Clone, Copy, PartialEq, Eq, Debug)]

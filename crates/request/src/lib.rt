@@ -19,5 +19,8 @@ pub use action::Action;
 pub use change::Change;
 pub use changes::ItemChanges;
 pub use data::{KEY_BYTES, MAX_ENTRIES};
-pub use head::{CONFIGURATION_CLASS, HEAD, Request, VALDEL, VALGET, VALSET, byte_at, same_layers};
+pub use head::{
+    CONFIGURATION_CLASS, HEAD, Request, VALDEL, VALGET, VALSET, byte_at, is_configuration, is_get,
+    is_request, same_layers,
+};
 pub use key::key_at;

@@ -4,3 +4,4 @@ pub mod Fields
 pub mod Calls
 pub mod Lending
 pub mod Bases
+pub mod Lines

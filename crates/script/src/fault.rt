@@ -1,4 +1,7 @@
 // What is wrong with a line of a script.
+ghost use Rattle.std.specs.Prelude.{◌≡◌};
+ghost use Rattle.script.specs.declared.fault.LineFault.TheVariants.{NoMemory};
+
 use std::alloc::{AllocError, AllocFailed};
 use std::error::Error;
 use std::fmt;
@@ -42,12 +45,16 @@ impl fmt::Display for LineFault {
 impl Error for LineFault {}
 
 impl From<AllocError> for LineFault {
+    ghost from_gives = { λ error fault. fault ≡ NoMemory };
+
     fn from(_fault: AllocError) -> LineFault {
         LineFault::NoMemory
     }
 }
 
 impl<T: Drop> From<AllocFailed<T>> for LineFault {
+    ghost from_gives = { λ failed fault. fault ≡ NoMemory };
+
     fn from(_fault: AllocFailed<T>) -> LineFault {
         LineFault::NoMemory
     }

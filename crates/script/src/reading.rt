@@ -1,5 +1,8 @@
 // A line of a script, read into a command.
-ghost use Rattle.std.specs.Prelude.{◌≡◌, length, IfOk, vec_len};
+ghost use Rattle.std.specs.Prelude.{◌≡◌, IfOk};
+ghost use Rattle.script.specs.declared.command.Choice.{Choice};
+ghost use Rattle.script.specs.declared.command.Part.TheVariants.{Store};
+ghost use Rattle.script.specs.Lines.{ReadsBytes, ReadsTake, ReadsAnswer, ReadsLook, ReadsRestart, ReadsAlone, ReadsCommand, ReadsLine, ReadsPlace, ReadsPart, ReadsPut, ReadsRemove, ReadsClear, ReadsShown, ReadsGiven, ReadsBuffer};
 
 use crate::command::{Choice, Command, Medium, OwnCall, Part, Place};
 use crate::fault::LineFault;
@@ -38,7 +41,9 @@ const MOST_WORDS: usize = 1 << 20;
 const ALONE: &str = "no word behind new or make";
 
 // The command of a line; none where the line is blank or begins with #.
-pub fn read_line(heap: Global, line: &str) -> Result<Option<Command>, LineFault> {
+pub fn read_line(heap: Global, line: &str) -> Result<Option<Command>, LineFault>
+    ensures { ReadsLine line.now result }
+{
     let words: Vec<&str> = line.split_whitespace().collect(heap)?;
     let [name, rest @ ..] = words.as_slice() else {
         return Ok(None);
@@ -49,7 +54,9 @@ pub fn read_line(heap: Global, line: &str) -> Result<Option<Command>, LineFault>
     read_command(heap, name, rest).map(Some)
 }
 
-fn read_command(heap: Global, name: &str, words: &[&str]) -> Result<Command, LineFault> {
+fn read_command(heap: Global, name: &str, words: &[&str]) -> Result<Command, LineFault>
+    ensures { ReadsCommand name.now words.now result }
+{
     match name {
         "new" => alone(words, Command::New),
         "make" => alone(words, Command::Make),
@@ -66,14 +73,18 @@ fn read_command(heap: Global, name: &str, words: &[&str]) -> Result<Command, Lin
     }
 }
 
-fn alone(words: &[&str], command: Command) -> Result<Command, LineFault> {
+fn alone(words: &[&str], command: Command) -> Result<Command, LineFault>
+    ensures { ReadsAlone command words.now result }
+{
     match words {
         [] => Ok(command),
         _ => Err(LineFault::Form(ALONE)),
     }
 }
 
-fn read_part(heap: Global, name: &str, words: &[&str]) -> Result<Part, LineFault> {
+fn read_part(heap: Global, name: &str, words: &[&str]) -> Result<Part, LineFault>
+    ensures { ReadsPart name.now words.now result }
+{
     match name {
         "entry" => entry_in(words),
         "need" => need_in(words),
@@ -100,7 +111,9 @@ fn need_in(words: &[&str]) -> Result<Part, LineFault> {
     Ok(Part::Need(read_need(first, second)?))
 }
 
-fn store_in(heap: Global, place: Place, words: &[&str]) -> Result<Part, LineFault> {
+fn store_in(heap: Global, place: Place, words: &[&str]) -> Result<Part, LineFault>
+    ensures { IfOk result (λ c. (w : Choice) × (c ≡ Store place w)) }
+{
     let choice = match words {
         ["saver", under @ ..] => Choice::Saved(medium_in(heap, under)?),
         _ => Choice::Bare(medium_in(heap, words)?),
@@ -117,46 +130,60 @@ fn medium_in(heap: Global, words: &[&str]) -> Result<Medium, LineFault> {
     }
 }
 
-fn put_in(words: &[&str]) -> Result<Part, LineFault> {
+fn put_in(words: &[&str]) -> Result<Part, LineFault>
+    ensures { ReadsPut words.now result }
+{
     let [place, key, value] = words else {
         return Err(LineFault::Form(PUT));
     };
     Ok(Part::Put(place_in(place, PUT)?, key_in(key)?, value_in(value)?))
 }
 
-fn remove_in(words: &[&str]) -> Result<Part, LineFault> {
+fn remove_in(words: &[&str]) -> Result<Part, LineFault>
+    ensures { ReadsRemove words.now result }
+{
     let [place, key] = words else {
         return Err(LineFault::Form(REMOVE));
     };
     Ok(Part::Remove(place_in(place, REMOVE)?, key_in(key)?))
 }
 
-fn clear_in(words: &[&str]) -> Result<Part, LineFault> {
+fn clear_in(words: &[&str]) -> Result<Part, LineFault>
+    ensures { ReadsClear words.now result }
+{
     let [place] = words else {
         return Err(LineFault::Form(CLEAR));
     };
     Ok(Part::Clear(place_in(place, CLEAR)?))
 }
 
-fn taking(heap: Global, words: &[&str]) -> Result<OwnCall, LineFault> {
+fn taking(heap: Global, words: &[&str]) -> Result<OwnCall, LineFault>
+    ensures { ReadsTake words.now result }
+{
     Ok(OwnCall::Take(bytes_in(heap, words)?))
 }
 
-fn answering(words: &[&str]) -> Result<OwnCall, LineFault> {
+fn answering(words: &[&str]) -> Result<OwnCall, LineFault>
+    ensures { ReadsAnswer words.now result }
+{
     let [size] = words else {
         return Err(LineFault::Form(ANSWER));
     };
     Ok(OwnCall::Answer(count_in(size)?))
 }
 
-fn looking(words: &[&str]) -> Result<OwnCall, LineFault> {
+fn looking(words: &[&str]) -> Result<OwnCall, LineFault>
+    ensures { ReadsLook words.now result }
+{
     let [layer, key] = words else {
         return Err(LineFault::Form(LOOK));
     };
     Ok(OwnCall::Look(layer_in(layer)?, key_in(key)?))
 }
 
-fn restarting(words: &[&str]) -> Result<OwnCall, LineFault> {
+fn restarting(words: &[&str]) -> Result<OwnCall, LineFault>
+    ensures { ReadsRestart words.now result }
+{
     match words {
         ["kept"] => Ok(OwnCall::Restart(Battery::Kept)),
         ["lost"] => Ok(OwnCall::Restart(Battery::Lost)),
@@ -164,7 +191,9 @@ fn restarting(words: &[&str]) -> Result<OwnCall, LineFault> {
     }
 }
 
-fn showing(words: &[&str]) -> Result<Place, LineFault> {
+fn showing(words: &[&str]) -> Result<Place, LineFault>
+    ensures { ReadsShown words.now result }
+{
     let [place] = words else {
         return Err(LineFault::Form(WORDS));
     };
@@ -172,7 +201,9 @@ fn showing(words: &[&str]) -> Result<Place, LineFault> {
 }
 
 // A buffer of as many words as the first number says: those that are given, as far as there is room, and blanks behind them.
-fn buffer_in(heap: Global, words: &[&str], form: &'static str) -> Result<Vec<u32>, LineFault> {
+fn buffer_in(heap: Global, words: &[&str], form: &'static str) -> Result<Vec<u32>, LineFault>
+    ensures { ReadsBuffer words.now result }
+{
     let [count, given @ ..] = words else {
         return Err(LineFault::Form(form));
     };
@@ -186,7 +217,9 @@ fn buffer_in(heap: Global, words: &[&str], form: &'static str) -> Result<Vec<u32
 }
 
 // A word of a journal for each word of the line.
-fn words_in(heap: Global, words: &[&str]) -> Result<Vec<u32>, LineFault> {
+fn words_in(heap: Global, words: &[&str]) -> Result<Vec<u32>, LineFault>
+    ensures { ReadsGiven words.now result }
+{
     let mut read = Vec::new(heap);
     for word in words {
         read.push(read_word(word).ok_or(LineFault::NoWord)?)?;
@@ -196,7 +229,7 @@ fn words_in(heap: Global, words: &[&str]) -> Result<Vec<u32>, LineFault> {
 
 // A byte for each word.
 fn bytes_in(heap: Global, words: &[&str]) -> Result<Vec<u8>, LineFault>
-    ensures { IfOk result (λ v. vec_len v ≡ length words.now) }
+    ensures { ReadsBytes words.now result }
 {
     let mut bytes = Vec::new(heap);
     for word in words {
@@ -205,7 +238,9 @@ fn bytes_in(heap: Global, words: &[&str]) -> Result<Vec<u8>, LineFault>
     Ok(bytes)
 }
 
-fn place_in(word: &str, form: &'static str) -> Result<Place, LineFault> {
+fn place_in(word: &str, form: &'static str) -> Result<Place, LineFault>
+    ensures { ReadsPlace form.now word.now result }
+{
     match word {
         "bbr" => Ok(Place::Bbr),
         "flash" => Ok(Place::Flash),

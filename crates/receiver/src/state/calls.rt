@@ -4,6 +4,7 @@ ghost use Rattle.reference.specs.declared.fault.CallFault.TheVariants.{Shut};
 ghost use Rattle.reference.specs.Events.{take_piece, look_at, restart_with};
 ghost use Rattle.reference.specs.Requests.{is_known};
 ghost use Rattle.receiver.specs.State.{items_of, Kept, took_event, looked_event, restarted_event};
+ghost use Rattle.receiver.specs.Small.{RestartLeaves};
 
 use super::Receiver;
 use super::meaning::Meaning;
@@ -30,6 +31,7 @@ impl<B: Store, F: Store, R: Rule> Receiver<B, F, R> {
         ensures after { ⟦<Self as Meaning>⟧.state self.new ≡ (⟦<Self as Meaning>⟧.step self.old (take_piece piece.now)).state }
         ensures event { took_event piece.now result ≡ (⟦<Self as Meaning>⟧.step self.old (take_piece piece.now)).event }
         ensures kept { Kept self.old self.new }
+        ensures stores { self.new.layers ≡ self.old.layers }
     {
         self.check_open()?;
         Ok(self.held.append(piece))
@@ -44,14 +46,16 @@ impl<B: Store, F: Store, R: Rule> Receiver<B, F, R> {
 
     // The store at BBR's place, to be read.
     pub fn bbr(&self) -> &B
-        ensures { ⟦<B as StoreMeaning>⟧.store result.now ≡ (⟦<Self as Meaning>⟧.state self.now).bbr }
+        ensures value { ⟦<B as StoreMeaning>⟧.store result.now ≡ (⟦<Self as Meaning>⟧.state self.now).bbr }
+        ensures same { result.now ≡ self.now.layers.upper.upper }
     {
         &self.layers.upper.upper
     }
 
     // The store at Flash's place, to be read.
     pub fn flash(&self) -> &F
-        ensures { ⟦<F as StoreMeaning>⟧.store result.now ≡ (⟦<Self as Meaning>⟧.state self.now).flash }
+        ensures value { ⟦<F as StoreMeaning>⟧.store result.now ≡ (⟦<Self as Meaning>⟧.state self.now).flash }
+        ensures same { result.now ≡ self.now.layers.upper.lower }
     {
         &self.layers.upper.lower
     }
@@ -83,6 +87,7 @@ impl<B: Store, F: Store, R: Rule> Receiver<B, F, R> {
         ensures after { ⟦<Self as Meaning>⟧.state self.new ≡ (⟦<Self as Meaning>⟧.step self.old (restart_with battery)).state }
         ensures event { restarted_event battery result ≡ (⟦<Self as Meaning>⟧.step self.old (restart_with battery)).event }
         ensures kept { Kept self.old self.new }
+        ensures stores { RestartLeaves battery result self.old self.new }
     {
         self.check_open()?;
         after_battery(battery, &mut self.layers.upper.upper);

@@ -7,6 +7,7 @@ ghost use Rattle.request.specs.Changes.{changes_by, slots_of};
 ghost use Rattle.reference.specs.Receiver.{with_transaction, written_if, applied, of_kind};
 ghost use Rattle.receiver.specs.State.{items_of, opened_of, Kept};
 ghost use Rattle.receiver.specs.Written.{verdict_on};
+ghost use Rattle.receiver.specs.Small.{SameUnlessAcked};
 ghost use Rattle.receiver.specs.Plans.{after_plan, after_grant, after_verdict, grant_length, reply_length, verdict_id, told_by};
 
 use super::Receiver;
@@ -70,6 +71,7 @@ impl<B: Store, F: Store, R: Rule> Receiver<B, F, R> {
     pub(crate) fn cancel_other_kind(&mut self, id: u8)
         ensures after { ⟦<Self as Meaning>⟧.state self.new ≡ with_transaction (⟦<Self as Meaning>⟧.state self.old) (of_kind id (⟦<Self as Meaning>⟧.state self.old).transaction) }
         ensures kept { Kept self.old self.new }
+        ensures stores { self.new.layers ≡ self.old.layers }
     {
         if let Some(transaction) = &self.transaction
             && transaction.id != id
@@ -107,6 +109,7 @@ impl<B: Store, F: Store, R: Rule> Receiver<B, F, R> {
         ensures out { out.new ≡ patched (reply_length judged) (frame_bytes (verdict_on (verdict_id judged) frame.id)) out.old }
         ensures after { ⟦<Self as Meaning>⟧.state self.new ≡ after_verdict (items_of self.old) (⟦<Self as Meaning>⟧.state self.old) (slots_of items.now) judged }
         ensures kept { Kept self.old self.new }
+        ensures stores { SameUnlessAcked result.verdict self.old.layers self.new.layers }
     {
         match judged {
             Ok(granted) => {

@@ -9,7 +9,7 @@ ghost use Rattle.receiver.specs.Plans.{Judged};
 ghost use Rattle.reference.specs.Events.{answer_into, written_by};
 ghost use Rattle.receiver.specs.First.{message_in, end_of, FirstIs};
 ghost use Rattle.receiver.specs.State.{items_of, Kept, answer_event};
-ghost use Rattle.receiver.specs.Small.{RefusedLeaves, NakLeaves, AllOrNone};
+ghost use Rattle.receiver.specs.Small.{RefusedLeaves, NakLeaves, AllOrNone, SameUnlessAcked, SameUnlessTold, AnswerLeaves};
 ghost use Rattle.receiver.specs.Handled.{handled_here, Answering, answering_of, length_of};
 
 use super::Receiver;
@@ -50,6 +50,7 @@ impl<B: Store, F: Store, R: Rule> Receiver<B, F, R> {
         requires fits { end_of frame ≤ length (bytes_held self.old.held) }
         ensures handling { Answering (handled_here (items_of self.old) (R.Rule.finding self.old.rule) (⟦<Self as Meaning>⟧.state self.old) frame) (⟦<Self as Meaning>⟧.state self.new) out.old out.new (record { noise = frame.noise; told = Some result }) }
         ensures kept { Kept self.old self.new }
+        ensures stores { SameUnlessAcked result.verdict self.old.layers self.new.layers }
     {
         if frame.class != CONFIGURATION_CLASS {
             self.held.skip(frame.end());
@@ -67,6 +68,7 @@ impl<B: Store, F: Store, R: Rule> Receiver<B, F, R> {
     fn answer_first(&mut self, out: &mut [u8; ANSWER_ROOM]) -> Answered
         ensures answering { Answering (answering_of (items_of self.old) (R.Rule.finding self.old.rule) (⟦<Self as Meaning>⟧.state self.old)) (⟦<Self as Meaning>⟧.state self.new) out.old out.new result }
         ensures kept { Kept self.old self.new }
+        ensures stores { SameUnlessTold result.told self.old.layers self.new.layers }
     {
         match self.first() {
             Ok(frame) => {
@@ -100,6 +102,7 @@ impl<B: Store, F: Store, R: Rule> Receiver<B, F, R> {
         ensures nak { NakLeaves result (⟦<Self as Meaning>⟧.state self.old) (⟦<Self as Meaning>⟧.state self.new) out.new }
         ensures all { AllOrNone (items_of self.old) (⟦<Self as Meaning>⟧.state self.old) (⟦<Self as Meaning>⟧.state self.new) }
         ensures kept { Kept self.old self.new }
+        ensures stores { AnswerLeaves result self.old.layers self.new.layers }
     {
         self.check_open()?;
         let room = out

@@ -1,11 +1,11 @@
 // Judging a frame of the configuration class. Nothing is changed here but the buffer, into which a reply is written; what is to be done
 // comes back as a plan, with its changes beside it.
-ghost use Rattle.std.specs.Prelude.{◌≡◌, ◌≤◌, ◌||◌, length, if◌then◌else◌, ◌==◌, nat_eq};
+ghost use Rattle.std.specs.Prelude.{◌≡◌, ◌≤◌, length, if◌then◌else◌, nat_eq};
 ghost use Rattle.request.specs.Changes.{changes_by, slots_of};
 ghost use Rattle.request.specs.Actions.{action_number};
 ghost use Rattle.request.specs.Reading.{read_as};
 ghost use Rattle.request.specs.Head.{opened_layers};
-ghost use Rattle.reference.specs.Requests.{valset, valget, valdel, and_later};
+ghost use Rattle.reference.specs.Requests.{valget, and_later};
 ghost use Rattle.reference.specs.Receiver.{apply_fault, applying, queue_of, planned, judged_change, judged_get, judged};
 ghost use Rattle.std.specs.Option.{option_map};
 ghost use Rattle.receiver.specs.State.{opened_of, items_of};
@@ -18,16 +18,8 @@ use crate::transaction::{Granted, Plan, Transaction};
 use configuration::fault_after;
 use layer::Store;
 use reference::{Layers, Refusal};
-use request::{Action, HEAD, ItemChanges, Request, VALDEL, VALGET, VALSET};
+use request::{Action, HEAD, ItemChanges, Request, VALGET, is_request};
 use rule::Rule;
-
-// Whether an ID is that of one of the three requests.
-// kept: `Request` is public and takes any ID, since `layers`, `action` and `read_data` promise something of each; so the ID is a byte here too
-fn is_request(id: u8) -> bool
-    ensures { result ≡ (id == valset || (id == valget || id == valdel)) }
-{
-    matches!(id, VALSET | VALGET | VALDEL)
-}
 
 impl<B: Store, F: Store, R: Rule> Receiver<B, F, R> {
     // The item at fault in the RAM that applying would leave.

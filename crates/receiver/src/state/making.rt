@@ -43,6 +43,7 @@ impl<B: Store, F: Store, R: Rule> Receiver<B, F, R> {
         ensures state { ⟦<Self as Meaning>⟧.state result ≡ made (⟦<Parts<B, F, R> as PartsMeaning>⟧.with parts entries.now) }
         ensures items { parts_fault (⟦<Parts<B, F, R> as PartsMeaning>⟧.with parts entries.now) ≡ None → items_of result ≡ entries.now }
         ensures rule { result.rule ≡ parts.rule }
+        ensures stores { (result.layers.upper.upper ≡ parts.bbr) × (result.layers.upper.lower ≡ parts.flash) }
         ensures law { LawOf (⟦<Parts<B, F, R> as PartsMeaning>⟧.with parts entries.now) }
     {
         let shut = check(entries, &parts.bbr, &parts.flash, &parts.rule).is_err();
@@ -71,6 +72,7 @@ impl<B: Store, F: Store, R: Rule> Receiver<B, F, R> {
         ensures bbr { ⟦<B as StoreMeaning>⟧.store result.bbr ≡ (⟦<Self as Meaning>⟧.state self).bbr }
         ensures flash { ⟦<F as StoreMeaning>⟧.store result.flash ≡ (⟦<Self as Meaning>⟧.state self).flash }
         ensures rule { result.rule ≡ self.rule }
+        ensures stores { (result.bbr ≡ self.layers.upper.upper) × (result.flash ≡ self.layers.upper.lower) }
     {
         let Receiver { layers, rule, .. } = self;
         let Stack {

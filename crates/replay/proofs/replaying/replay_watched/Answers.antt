@@ -1,4 +1,4 @@
-use Rattle.std.proofs.Common.{ap}
+use Rattle.std.proofs.Common.{ap, ◌∙◌}
 use Rattle.std.proofs.lemmas.Result.{IfOk-weaker}
 use Rattle.replay.proofs.Runs.{replays}
 use Rattle.replay.proofs.Sights.{sees_run}
@@ -13,3 +13,8 @@ pub returns-clause-seen : goal.returns-clause-seen
 returns-clause-seen g c =
     let told = c.make-receiver.ensures in
     IfOk-weaker c.log_all.result _ _ (λ x e. sees_run g.W.Watch.saw _ _ _ _ told.items (ap g.R.Rule.finding told.rule) _ told.state _ _ e) c.log_all.ensures.seen
+
+pub returns-clause-parts : goal.returns-clause-parts
+returns-clause-parts g c =
+    let told = c.make-receiver.ensures in
+    IfOk-weaker c.log_all.result _ _ (λ x kept. record { items = λ ok. kept.items ∙ told.items ok; same_rule = kept.rule ∙ told.rule }) c.log_all.ensures.kept

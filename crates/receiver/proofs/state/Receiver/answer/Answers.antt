@@ -49,4 +49,5 @@ returns g c =
       nak = nak_leaves cat rule s (length old) t out (Ok a) state event;
       all = all_or_none cat rule s (length old) t out (Ok a) state event;
       kept = told.kept;
+      stores = told.stores;
     }

@@ -18,6 +18,7 @@ returns g c =
           (parts_of c.args.entries.now (g.R.Rule.finding parts.rule) (store_of g.B.Store.usable g.B.Layer.settings bbr) (store_of g.F.Store.usable g.F.Layer.settings flash))
           (entries_of c.new.result.catalogue) c.new.ensures.entries;
       rule = refl;
+      stores = search rules;
       law =
           law_follows c.args.entries.now (g.R.Rule.finding parts.rule) (g.B.Store.usable bbr) (g.F.Store.usable flash) (g.B.Layer.settings bbr) (g.F.Layer.settings flash)
           (g.met.B.Layer.ascends bbr) (g.met.B.Layer.sound bbr) (g.met.B.Store.shows bbr)
