@@ -36,9 +36,11 @@ fn stretch(line: &str, noise: &mut Noise) -> Vec<u8> {
     let pair = [0x01, 0x00, 0x51, 0x20, 0x42];
     match line {
         "starts" => vec![0xb5, 0x62, 0x01, 0x01, 0x04, 0x03],
+        "twins" => vec![0xb5, 0x62, 0xb5, 0x62, 0x04, 0x03, 0x04, 0x03],
         "preambles" => [&[0xb5, 0x62], &noise.bytes(4)[..]].concat(),
         "random" => noise.bytes(1024),
         "clean" => frame(0x01, 0x07, &noise.bytes(772)),
+        "usual" => frame(0x01, 0x07, &noise.bytes(92)),
         "short" => frame(0x01, 0x07, &noise.bytes(9)),
         "sets" => frame(0x06, 0x8a, &[&[0, 1, 0, 0], &pair[..]].concat()),
         "gets" => frame(0x06, 0x8b, &[0, 0, 0, 0, 0x01, 0x00, 0x51, 0x20]),

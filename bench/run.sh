@@ -22,7 +22,7 @@ median() {
 }
 
 printf '%-14s %8s %9s %6s\n' line ubxlist baseline ratio
-for line in starts preambles random clean short sets gets transactions; do
+for line in starts twins preambles random clean usual short sets gets transactions; do
     "$work/lines" "$line" > "$work/line"
     proved=$(median "$ubxlist")
     cp "$work/out" "$work/proved"

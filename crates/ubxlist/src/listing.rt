@@ -50,7 +50,7 @@ impl<'a, W: Write> Listing<'a, W> {
         // kept: a `loop` would have to be shown to end, by what the receiver holds and takes; the bound says it in a line
         for _ in 0..u64::MAX {
             if let Some(row) = self.answer_first()? {
-                self.out.writeln(row)?;
+                row.write_to(self.out)?;
             } else if rest.is_empty() {
                 break;
             } else {
