@@ -1,5 +1,5 @@
 -- The definitions computed on worked entries and catalogues, and what is not as they say.
-use Rattle.std.proofs.Common.{◌≡◌, ℕ, zero, suc, ◌+◌, ◌%◌, ◌<◌, ◌≤◌, Bool, true, false, leb, List, [], ◌∷◌, map, length, replicate, Some, None, Ok, Err, refl, arith}
+use Rattle.std.proofs.Common.{◌≡◌, ℕ, zero, suc, ◌+◌, ◌%◌, ◌<◌, true, false, leb, List, [], ◌∷◌, map, replicate, Some, None, Ok, Err, refl, arith}
 use Rattle.std.proofs.lemmas.Bool.Decides.{nat_tests}
 use Rattle.item.specs.declared.key.Size.{Size}
 use Rattle.item.specs.declared.key.Size.TheVariants.{Bit, One, Two, Four, Eight}

@@ -1,5 +1,5 @@
 -- The definitions computed on worked bytes.
-use Rattle.std.proofs.Common.{◌≡◌, ℕ, ◌+◌, ◌≤◌, List, [], ◌∷◌, ◌++◌, length, drop, replicate, Some, None, Ok, Err, refl, ap, arith}
+use Rattle.std.proofs.Common.{◌≡◌, ℕ, ◌+◌, List, [], ◌∷◌, ◌++◌, length, drop, replicate, Some, None, Ok, Err, refl, ap, arith}
 use Rattle.frame.specs.Checksum.{summed}
 use Rattle.frame.specs.Frames.{Message, carrying, size_of, frame_bytes, intact, undecided, noise, at_check_bytes, at_payload, at_header, at_second, standing}
 use Rattle.frame.specs.declared.writer.WriteFault.TheVariants.{PayloadTooLong, BufferTooShort}
@@ -99,6 +99,14 @@ at_last = (omega arith, omega arith)
 heard_twice : InOrder (frame_bytes ack) 0 (ack_at 0 ∷ ack_at 0 ∷ []) → ⊥
 unfolding InOrder ack
 heard_twice i = absurd (omega (arith, i.2.0))
+
+-- nor one inside another
+outer : Message
+outer = carrying 0x06 0x8a (frame_bytes ack)
+
+heard_inside : InOrder (frame_bytes outer) 0 (record { place = 0; message = outer } ∷ ack_at 6 ∷ []) → ⊥
+unfolding InOrder outer ack frame_bytes summed
+heard_inside i = absurd (omega (arith, i.2.0))
 
 heard_elsewhere : InOrder (0x00 ∷ []) 0 (ack_at 0 ∷ []) → ⊥
 unfolding InOrder standing

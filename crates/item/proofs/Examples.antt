@@ -1,11 +1,11 @@
 -- The definitions computed on worked keys, numbers and bytes.
-use Rattle.std.proofs.Common.{◌≡◌, ℕ, Bool, true, false, ◌&&◌, ◌||◌, List, [], ◌∷◌, map, replicate, Some, None, Ok, Err, refl, arith}
+use Rattle.std.proofs.Common.{◌≡◌, true, false, ◌&&◌, ◌||◌, [], ◌∷◌, map, replicate, Some, None, Ok, Err, refl, arith}
 use Rattle.item.specs.declared.key.Size.TheVariants.{Bit, One, Two, Four, Eight}
 use Rattle.item.specs.declared.selector.Selector.TheVariants.{All, Group, Key}
 use Rattle.item.specs.declared.value.ValueFault.TheVariants.{Unfit, BufferTooShort}
-use Rattle.item.specs.Keys.{width_of, fits, size_of, well_formed, fits_key}
+use Rattle.item.specs.Keys.{fits, size_of, well_formed, fits_key}
 use Rattle.item.specs.Selectors.{selector_of, names}
-use Rattle.item.specs.Values.{number, bytes_of, value_bytes, value_read, read_bytes, ReadAs, value_written}
+use Rattle.item.specs.Values.{number, bytes_of, value_bytes, value_read, ReadAs, value_written}
 
 -- sizes 0 to 7, and a size below bits that are not its own
 sizes : map size_of (0x00510001 ∷ 0x10510001 ∷ 0x20510001 ∷ 0x30510001 ∷ 0x40510001 ∷ 0x50510001 ∷ 0x60510001 ∷ 0x70510001 ∷ 0xafffffff ∷ [])

@@ -2,11 +2,10 @@
 use anyhow::bail;
 use options::{Input, for_each_piece};
 use std::alloc::Global;
-use std::fs;
-use std::io;
 use std::io::{ErrorKind, Read};
 use std::rt::HostRuntime;
 use std::test::Fail;
+use std::{fs, io};
 
 const NAME: &str = "options_tests_input";
 

@@ -1,11 +1,9 @@
 -- The definitions computed on worked configurations, and what is not as they say.
-use Rattle.std.proofs.Common.{◌≡◌, ℕ, ◌<◌, List, [], ◌∷◌, map, Some, None, Option, refl, arith}
-use Rattle.std.specs.Prelude.{◌≢◌, slice_set}
-use Rattle.catalogue.specs.declared.entries.Entry.{Entry}
+use Rattle.std.proofs.Common.{◌≡◌, ℕ, List, [], ◌∷◌, map, Some, None, Option, refl, arith}
 use Rattle.catalogue.specs.declared.kind.Kind.TheVariants.{Unsigned, Signed}
 use Rattle.catalogue.specs.Bench.{entry, bench}
 use Rattle.rule.specs.declared.need.Need.{Need}
-use Rattle.rule.specs.Rules.{Finding, NamesPlaces, ranges, DefaultsFit, first_broken, Eases, both_find}
+use Rattle.rule.specs.Rules.{NamesPlaces, ranges, DefaultsFit, first_broken, Eases, both_find}
 
 abbrev need : ℕ → ℕ → Need
 need i j = record { first = i; second = j }
@@ -15,8 +13,8 @@ abbrev judged : List ℕ → Option ℕ
 judged vs = both_find ranges (first_broken (need 0 1 ∷ [])) bench vs
 
 findings : map judged (
-      (0 ∷ 1 ∷ 65 ∷ 0 ∷ 0 ∷ 0 ∷ 0 ∷ []) ∷ (0 ∷ 1 ∷ 8 ∷ 10 ∷ 10 ∷ 255 ∷ 255 ∷ []) ∷ (0 ∷ 1 ∷ 7 ∷ 11 ∷ 0 ∷ 0 ∷ 0 ∷ []) ∷ (1 ∷ 0 ∷ 65 ∷ 0 ∷ 0 ∷ 0 ∷ 0 ∷ [])
-      ∷ (1 ∷ 1 ∷ 65 ∷ 0 ∷ 0 ∷ 0 ∷ 0 ∷ []) ∷ (1 ∷ 0 ∷ 65 ∷ 0 ∷ 11 ∷ 0 ∷ 0 ∷ []) ∷ [])
+    (0 ∷ 1 ∷ 65 ∷ 0 ∷ 0 ∷ 0 ∷ 0 ∷ []) ∷ (0 ∷ 1 ∷ 8 ∷ 10 ∷ 10 ∷ 255 ∷ 255 ∷ []) ∷ (0 ∷ 1 ∷ 7 ∷ 11 ∷ 0 ∷ 0 ∷ 0 ∷ []) ∷ (1 ∷ 0 ∷ 65 ∷ 0 ∷ 0 ∷ 0 ∷ 0 ∷ [])
+    ∷ (1 ∷ 1 ∷ 65 ∷ 0 ∷ 0 ∷ 0 ∷ 0 ∷ []) ∷ (1 ∷ 0 ∷ 65 ∷ 0 ∷ 11 ∷ 0 ∷ 0 ∷ []) ∷ [])
     ≡ None ∷ None ∷ Some 2 ∷ Some 0 ∷ None ∷ Some 4 ∷ []
 findings = refl
 
