@@ -1,6 +1,6 @@
 -- From what the code did with a frame to how the reference handles it.
-use Rattle.std.proofs.Common.{◌≡◌, ℕ, zero, suc, ◌+◌, cond, not, ◌||◌, eqb, ltb, List, [], ◌++◌, length, take, drop, Some, Ok, Err, Option, Result, sym, refl, ap, ◌∙◌, subst, ap₂, append_assoc}
-use Rattle.std.proofs.lemmas.Bool.{ne_eqb, cond-false}
+use Rattle.std.proofs.Common.{◌≡◌, ℕ, zero, suc, ◌+◌, cond, not, ◌||◌, eqb, ltb, List, [], ◌++◌, length, take, drop, Some, Ok, Err, Option, Result, sym, refl, ap, ◌∙◌, subst, ap₂, append_assoc, Bool, false}
+use Rattle.std.proofs.lemmas.Bool.{cond-false}
 use Rattle.std.proofs.lemmas.List.{take_at, drop_at, drop-drop, length-append}
 use Rattle.frame.specs.Frames.{Message, carrying, frame_bytes}
 use Rattle.frame.specs.Written.{patched, in_front}
@@ -170,14 +170,14 @@ module _ (cat : Catalogue) (rule : Finding) (s : State) (h : HeldFrame) where
 
   -- A frame of another class
 
-  pub outside_handled : (bs old : List ℕ) (t : Telling) (end : ℕ) → (h.class ≡ configuration_class → ⊥) → t ≡ record { class = h.class; id = h.id; verdict = Outside; length = 0 }
+  pub outside_handled : (bs old : List ℕ) (t : Telling) (end : ℕ) → ((b : Bool) × (b ≡ eqb h.class configuration_class) × (b ≡ false)) → t ≡ record { class = h.class; id = h.id; verdict = Outside; length = 0 }
       → bs ≡ drop end s.held_bytes → end ≡ end_of h → Answering (handled_here cat rule s h) (with_held s bs) old old (record { noise = h.noise; told = Some t })
   unfolding handled
   outside_handled bs old t end other told_is dropped end_is =
       let m : Message = message_in s.held_bytes h in
       let left : with_held s bs ≡ with_held s (drop (end_of h) s.held_bytes) = ap (with_held s) (dropped ∙ ap (λ k. drop k s.held_bytes) end_is) in
       let there : State = with_held s (drop (end_of h) s.held_bytes) in
-      let is = cond-false (eqb m.class configuration_class) (carried_out cat (with_transaction there (of_kind m.id s.transaction)) h.noise m (judged cat rule (with_transaction there (of_kind m.id s.transaction)) m)) (record { state = there; event = told h.noise m.class m.id Outside [] }) (ne_eqb m.class configuration_class other) in
+      let is = cond-false (eqb m.class configuration_class) (carried_out cat (with_transaction there (of_kind m.id s.transaction)) h.noise m (judged cat rule (with_transaction there (of_kind m.id s.transaction)) m)) (record { state = there; event = told h.noise m.class m.id Outside [] }) (sym other.1 ∙ other.2) in
       subst (λ (x : Telling). Answering (handled_here cat rule s h) (with_held s bs) old old (record { noise = h.noise; told = Some x })) (sym told_is)
       (subst (λ (x : Stepped). Answering x (with_held s bs) old old (record { noise = h.noise; told = Some (record { class = h.class; id = h.id; verdict = Outside; length = 0 }) })) (sym is)
       (record { state = left; event = refl; count = refl; buffer = refl }))

@@ -1,6 +1,6 @@
 -- From the code's judgement of a frame to the reference's.
 use Rattle.std.proofs.Common.{◌≡◌, ℕ, ◌<◌, ◌≤◌, Bool, true, false, cond, not, ◌||◌, eqb, ltb, List, length, get_or, take, drop, Some, None, Ok, Err, Option, Result, sym, refl, ap, ◌∙◌, subst, arith}
-use Rattle.std.proofs.lemmas.Bool.{eq-eqb, cond-true, cond-false, cond_both, lt-ltb, le-ltb}
+use Rattle.std.proofs.lemmas.Bool.{cond-true, cond-false, cond_both, lt-ltb, le-ltb}
 use Rattle.std.proofs.lemmas.List.{take_at}
 use Rattle.frame.specs.Frames.{Message, carrying}
 use Rattle.frame.proofs.Frames.{frame_length}
@@ -83,14 +83,14 @@ module _ (cat : Catalogue) (rule : Finding) (s : State) (id : ℕ) (p : List ℕ
   abbrev pub either : Result Planned Refusal
   either = cond (eqb id valget) (judged_get cat s request) (judged_change cat rule s request)
 
-  as_get : (out : List ℕ) (r : Result Granted Refusal) → 4 ≤ length p → id ≡ valget → Judged cat slots old out (ok_map reply (gotten cat s p)) r → Judged cat slots old out either r
-  as_get out r long is j = subst (λ (x : Result Planned Refusal). Judged cat slots old out x r) (sym (cond-true (eqb id valget) _ _ (eq-eqb id valget is) ∙ get_is cat s request long)) j
+  as_get : (out : List ℕ) (r : Result Granted Refusal) → 4 ≤ length p → (b : Bool) → b ≡ eqb id valget → b ≡ true → Judged cat slots old out (ok_map reply (gotten cat s p)) r → Judged cat slots old out either r
+  as_get out r long b e is j = subst (λ (x : Result Planned Refusal). Judged cat slots old out x r) (sym (cond-true (eqb id valget) _ _ (sym e ∙ is) ∙ get_is cat s request long)) j
 
-  pub got : (out : List ℕ) (n : ℕ) → 4 ≤ length p → id ≡ valget → Ok n ≡ ok_map length (gotten cat s p) → out ≡ in_front_if_made (gotten cat s p) old → Judged cat slots old out either (Ok (Reply n))
-  got out n long is e o = as_get out (Ok (Reply n)) long is (reply_judged cat slots old out (gotten cat s p) n (few_gotten cat s p) e o)
+  pub got : (out : List ℕ) (n : ℕ) → 4 ≤ length p → (b : Bool) → b ≡ eqb id valget → b ≡ true → Ok n ≡ ok_map length (gotten cat s p) → out ≡ in_front_if_made (gotten cat s p) old → Judged cat slots old out either (Ok (Reply n))
+  got out n long b told is e o = as_get out (Ok (Reply n)) long b told is (reply_judged cat slots old out (gotten cat s p) n (few_gotten cat s p) e o)
 
-  pub not_got : (out : List ℕ) (f : Refusal) → 4 ≤ length p → id ≡ valget → Err f ≡ ok_map length (gotten cat s p) → out ≡ in_front_if_made (gotten cat s p) old → Judged cat slots old out either (Err f)
-  not_got out f long is e o = as_get out (Err f) long is (reply_refused cat slots old out (gotten cat s p) f e o)
+  pub not_got : (out : List ℕ) (f : Refusal) → 4 ≤ length p → (b : Bool) → b ≡ eqb id valget → b ≡ true → Err f ≡ ok_map length (gotten cat s p) → out ≡ in_front_if_made (gotten cat s p) old → Judged cat slots old out either (Err f)
+  not_got out f long b told is e o = as_get out (Err f) long b told is (reply_refused cat slots old out (gotten cat s p) f e o)
 
   -- the checks before all others
   pub judged_request : (out : List ℕ) (r : Result Granted Refusal) (b : Bool) → b ≡ (eqb id valset || (eqb id valget || eqb id valdel)) → b ≡ true → 4 ≤ length p

@@ -19,7 +19,7 @@ use crate::transaction::Granted;
 use frame::HEADER;
 use layer::Store;
 use reference::{Answered, CallFault, Refusal, Telling, Verdict};
-use request::{CONFIGURATION_CLASS, ItemChanges, Request};
+use request::{ItemChanges, Request, is_configuration};
 use rule::Rule;
 
 // The least room for an answer: the largest reply, and the verdict behind it.
@@ -52,7 +52,7 @@ impl<B: Store, F: Store, R: Rule> Receiver<B, F, R> {
         ensures kept { Kept self.old self.new }
         ensures stores { SameUnlessAcked result.verdict self.old.layers self.new.layers }
     {
-        if frame.class != CONFIGURATION_CLASS {
+        if !is_configuration(frame.class) {
             self.held.skip(frame.end());
             return frame.told(Verdict::Outside, 0);
         }

@@ -18,7 +18,7 @@ use crate::transaction::{Granted, Plan, Transaction};
 use configuration::fault_after;
 use layer::Store;
 use reference::{Layers, Refusal};
-use request::{Action, HEAD, ItemChanges, Request, VALGET, is_request};
+use request::{Action, HEAD, ItemChanges, Request, is_get, is_request};
 use rule::Rule;
 
 impl<B: Store, F: Store, R: Rule> Receiver<B, F, R> {
@@ -135,7 +135,7 @@ impl<B: Store, F: Store, R: Rule> Receiver<B, F, R> {
         requires long { 4 ≤ length request.now.payload.now }
         ensures { Judged (items_of self.now) (slots_of items.new) out.old out.new (if nat_eq request.now.id valget then judged_get (items_of self.now) (⟦<Self as Meaning>⟧.state self.now) (request_message request.now) else judged_change (items_of self.now) (R.Rule.finding self.now.rule) (⟦<Self as Meaning>⟧.state self.now) (request_message request.now)) result }
     {
-        if request.id == VALGET {
+        if is_get(request.id) {
             let length = self.judge_get(request.payload, out)?;
             Ok(Granted::Reply(length))
         } else {

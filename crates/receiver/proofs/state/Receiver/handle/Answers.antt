@@ -1,15 +1,17 @@
-use Rattle.std.proofs.Common.{ap}
+use Rattle.std.proofs.Common.{sym, ◌∙◌, ap}
+use Rattle.std.proofs.lemmas.Bool.{eqb-true}
+use Rattle.reference.specs.Requests.{configuration_class}
 use Rattle.held.specs.Meaning.{bytes_held}
 use Rattle.request.specs.Changes.{slots_of}
 use Rattle.receiver.specs.State.{items_of, state_of}
 use Rattle.receiver.proofs.Handled.{request_handled, outside_handled}
 use Rattle.receiver.proofs.state.Receiver.handle.Goals as goal
 
-pub returns-then-frame-ne-CONFIGURATION_CLASS-clause-handling : goal.returns-then-frame-ne-CONFIGURATION_CLASS-clause-handling
-returns-then-frame-ne-CONFIGURATION_CLASS-clause-handling g c =
+pub returns-then-not-is_configuration-clause-handling : goal.returns-then-not-is_configuration-clause-handling
+returns-then-not-is_configuration-clause-handling g c =
     let before = c.args.self.now in
     outside_handled (items_of before) (g.R.Rule.finding before.rule) (state_of g.B.Store.usable g.B.Layer.settings g.F.Store.usable g.F.Layer.settings before) c.args.frame
-    (bytes_held c.skip.new.self) c.args.out.now c.told.result c.end.result c.if-frame-ne-CONFIGURATION_CLASS.true c.told.ensures c.skip.ensures c.end.ensures
+    (bytes_held c.skip.new.self) c.args.out.now c.told.result c.end.result (c.is_configuration.result, c.is_configuration.ensures, c.if-not-is_configuration.true) c.told.ensures c.skip.ensures c.end.ensures
 
 pub returns-clause-handling : goal.returns-clause-handling
 returns-clause-handling g c =
@@ -22,6 +24,6 @@ returns-clause-handling g c =
     (slots_of c.judge_held-judged.new.items) (items_of cancelled) (g.R.Rule.finding cancelled.rule)
     (state_of g.B.Store.usable g.B.Layer.settings g.F.Store.usable g.F.Layer.settings cancelled)
     (state_of g.B.Store.usable g.B.Layer.settings g.F.Store.usable g.F.Layer.settings concluded) (bytes_held c.skip-2.new.self) c.args.out.now
-    c.judge_held-judged.new.out c.conclude-telling.new.out c.judge_held-judged.result c.conclude-telling.result c.end-2.result c.if-frame-ne-CONFIGURATION_CLASS.false
+    c.judge_held-judged.new.out c.conclude-telling.new.out c.judge_held-judged.result c.conclude-telling.result c.end-2.result (eqb-true c.args.frame.class configuration_class (sym c.is_configuration.ensures ∙ c.if-not-is_configuration.false))
     cancelling.kept.items (ap g.R.Rule.finding cancelling.kept.rule) cancelling.after c.judge_held-judged.ensures concluding.value concluding.out concluding.after
     c.skip-2.ensures c.end-2.ensures
