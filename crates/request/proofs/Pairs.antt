@@ -1,5 +1,5 @@
 -- One pair of key and value.
-use Rattle.std.proofs.Common.{◌≡◌, ℕ, zero, suc, ◌+◌, ◌%◌, ◌<◌, ◌≤◌, Bool, true, false, cond, ◌||◌, ltb, List, [], ◌∷◌, length, get_or, take, drop, set, Some, None, Ok, Err, Option, sym, refl, ap, ◌∙◌, arith}
+use Rattle.std.proofs.Common.{◌≡◌, ℕ, zero, suc, ◌+◌, ◌%◌, ◌<◌, ◌≤◌, Bool, true, false, cond, ◌||◌, ltb, List, [], ◌∷◌, length, get_or, take, drop, set, Some, None, Ok, Err, Option, sym, refl, ap, ◌∙◌, get_or-set_other, arith}
 use Rattle.std.proofs.lemmas.Bool.{ltb-false, eq-eqb, ne_eqb}
 use Rattle.std.proofs.lemmas.Bool.Decides.{nat_tests}
 use Rattle.item.specs.Keys.{size_of}
@@ -65,15 +65,16 @@ cut_pair : (es : List Entry) (bs : List ℕ) → None ≡ pair_in bs → pair_re
 unfolding pair_read
 cut_pair es bs e = ap (λ b. cond b cut (read_pair es (pair_of bs))) (none_pair (is_cut bs) (pair_of bs) e)
 
-pub pair_cut : (es : List Entry) (bs : List ℕ) (before after : List (Option Change)) → None ≡ pair_in bs → Taken es (pair_read es bs) (length bs) before after (Err Cut)
-pair_cut es bs before after e = record { value = sym (ap (read_map (over es before)) (cut_pair es bs e)); within = tt }
+pub pair_cut : (es : List Entry) (bs : List ℕ) (before : List (Option Change)) → None ≡ pair_in bs → Taken es (pair_read es bs) (length bs) before before (Err Cut)
+pair_cut es bs before e = record { value = sym (ap (read_map (over es before)) (cut_pair es bs e)); within = tt; behind = λ i le. refl }
 
-pub pair_unknown : (es : List Entry) (bs : List ℕ) (before after : List (Option Change)) (p : Pair) → Some p ≡ pair_in bs → FirstWith p.key es None
-    → Taken es (pair_read es bs) (length bs) before after (Err Unknown)
-pair_unknown es bs before after p e none = record {
+pub pair_unknown : (es : List Entry) (bs : List ℕ) (before : List (Option Change)) (p : Pair) → Some p ≡ pair_in bs → FirstWith p.key es None
+    → Taken es (pair_read es bs) (length bs) before before (Err Unknown)
+pair_unknown es bs before p e none = record {
   value = sym (ap (read_map (over es before))
       (whole_pair es bs p e ∙ ap (λ b. cond b (read p.len (record { key = p.key; value = Some p.value } ∷ [])) unknown) (known_not es p.key none)));
   within = tt;
+  behind = λ i le. refl;
 }
 
 pub pair_taken : (es : List Entry) (bs : List ℕ) (before after : List (Option Change)) (p : Pair) (i : ℕ) → Some p ≡ pair_in bs → FirstWith p.key es (Some i)
@@ -86,4 +87,5 @@ pair_taken es bs before after p i e first listed few whole is =
           ∙ ap (read p.len) (over_one es before i (Some (Put p.value)) p.key (Some p.value) listed few whole first.0 first.1 refl)
           ∙ sym (ap (read_map (over es before)) (whole_pair es bs p e ∙ ap (λ b. cond b (read p.len datum) unknown) known));
       within = pair_room bs p e;
+      behind = λ j le. ap (λ (cs : List (Option Change)). get_or cs j None) is ∙ get_or-set_other before i j (Some (Put p.value)) None (let lt : i < length es = first.0 in omega arith);
     }

@@ -1,5 +1,5 @@
 -- The items that a key or selector names, removed one after the other.
-use Rattle.std.proofs.Common.{◌≡◌, ℕ, ◌+◌, ◌<◌, ◌≤◌, Bool, true, false, cond, List, [], ◌∷◌, map, length, get_or, take, drop, set, Some, None, Ok, Err, Option, Result, sym, refl, ap, ◌∙◌, arith}
+use Rattle.std.proofs.Common.{◌≡◌, ℕ, ◌+◌, ◌<◌, ◌≤◌, Bool, true, false, cond, List, [], ◌∷◌, map, length, get_or, take, drop, set, Some, None, Ok, Err, Option, Result, sym, refl, ap, ◌∙◌, get_or-set_other, arith}
 use Rattle.std.proofs.lemmas.List.{drop_more, drop_all}
 use Rattle.std.proofs.lemmas.Bool.{lt-ltb, le-ltb}
 use Rattle.std.proofs.lemmas.Bool.Decides.{nat_tests}
@@ -15,7 +15,7 @@ use Rattle.request.specs.declared.data.EntryFault.{EntryFault}
 use Rattle.request.specs.declared.data.EntryFault.TheVariants.{Cut, Unknown}
 use Rattle.request.specs.Changes.{changes_by}
 use Rattle.request.specs.Keys.{key_in}
-use Rattle.request.specs.Reading.{over, Within, Taken}
+use Rattle.request.specs.Reading.{over, Within, SameBehind, Taken}
 use Rattle.request.proofs.Settled.{over_append, over_one, over_nil}
 
 -- what is still to be removed, from an item on
@@ -27,6 +27,7 @@ pub record Removing (es : List Entry) (s : Selector) (before slots : List (Optio
   pub left : over es slots (removals s i es) ≡ over es before (map deleted (keys_named s es))
   pub some : named ≡ true → 0 < length (keys_named s es)
   pub none : named ≡ false → keys_named s (drop i es) ≡ keys_named s es
+  pub behind : SameBehind (length es) before slots
 
 abbrev key_at : List Entry → ℕ → ℕ
 key_at es i = (get_or es i blank).key
@@ -62,6 +63,7 @@ removing_named es s before slots after i named inv listed few whole lt e is = re
       ∙ inv.left;
   some = λ t. some_more es s before slots i (key_at es i) (keys_named s (drop (i + 1) es)) named inv (keys_here s es i lt e);
   none = λ f. absurd (cc);
+  behind = λ j le. ap (λ (cs : List (Option Change)). get_or cs j None) is ∙ get_or-set_other slots i j (Some Remove) None (omega arith) ∙ inv.behind j le;
 }
 
 pub removing_past : (es : List Entry) (s : Selector) (before slots : List (Option Change)) (i : ℕ) (named : Bool) → Removing es s before slots i named
@@ -70,6 +72,7 @@ removing_past es s before slots i named inv lt e = record {
   left = ap (λ (ks : List ℕ). over es slots (map deleted ks)) (sym (keys_past s es i lt e)) ∙ inv.left;
   some = inv.some;
   none = λ f. sym (keys_past s es i lt e) ∙ inv.none f;
+  behind = inv.behind;
 }
 
 -- the end: nothing is left to remove
@@ -88,23 +91,25 @@ removing_end es s before slots i named inv le e = record {
   value = sym (some_named es before (keys_named s es) (inv.some e)
       ∙ ap (read 4) (sym inv.left ∙ ap (λ (ks : List ℕ). over es slots (map deleted ks)) (none_left s es i le) ∙ over_nil (changes_by es slots)));
   within = (omega arith, omega arith);
+  behind = inv.behind;
 }
 
 pub removing_none : (es : List Entry) (s : Selector) (before slots : List (Option Change)) (i : ℕ) (named : Bool) → Removing es s before slots i named → length es ≤ i
     → named ≡ false → Taken es (read_map (map deleted) (named_read (keys_named s es))) 4 before slots (Err Unknown)
 removing_none es s before slots i named inv le e =
     let empty : keys_named s es ≡ [] = sym (inv.none e) ∙ none_left s es i le in
-    record { value = sym (ap (λ (ks : List ℕ). read_map (over es before) (read_map (map deleted) (named_read ks))) empty); within = tt }
+    record { value = sym (ap (λ (ks : List ℕ). read_map (over es before) (read_map (map deleted) (named_read ks))) empty); within = tt; behind = inv.behind }
 
 -- The key or selector in front
 
-pub removal_cut : (es : List Entry) (bs : List ℕ) (before after : List (Option Change)) → None ≡ key_in bs → Taken es (deletion_read es bs) (length bs) before after (Err Cut)
+pub removal_cut : (es : List Entry) (bs : List ℕ) (before : List (Option Change)) → None ≡ key_in bs → Taken es (deletion_read es bs) (length bs) before before (Err Cut)
 unfolding key_read
-removal_cut es bs before after e =
+removal_cut es bs before e =
     let short : length bs < 4 = grind (arith, nat_tests) in
     record {
       value = sym (ap (λ b. read_map (over es before) (read_map (map deleted) (cond b cut (named_read (keys_named (selector_of (number (take 4 bs))) es))))) (lt-ltb (length bs) 4 short));
       within = tt;
+      behind = λ i le. refl;
     }
 
 within_more : (n m : ℕ) (r : Result ℕ EntryFault) → n ≤ m → Within n r → Within m r
@@ -122,4 +127,5 @@ removal_taken es bs before after k r e t =
           ∙ ap (λ n. read_map (over es before) (read_map (map deleted) (named_read (keys_named (selector_of n) es)))) key
           ∙ sym (ap (λ b. read_map (over es before) (read_map (map deleted) (cond b cut (named_read (keys_named (selector_of (number (take 4 bs))) es))))) (le-ltb (length bs) 4 long));
       within = within_more 4 (length bs) r long t.within;
+      behind = t.behind;
     }

@@ -74,3 +74,12 @@ module _ (os : List Outcome) (vs : List ℕ) (i : ℕ) (c : Option Change) (whol
 
   pub set_beyond : 128 ≤ i → slots_in os vs ≡ set (slots_in os vs) i c
   set_beyond le = let long = slots_long os vs whole beside in sym (set_past (slots_in os vs) i c (omega arith))
+
+-- where no item changes, none does at any place
+none_anywhere : (n i : ℕ) → ◌≡◌ {A = Option Change} (get_or (replicate n None) i None) None
+none_anywhere zero i = refl
+none_anywhere (suc n) zero = refl
+none_anywhere (suc n) (suc i) = none_anywhere n i
+
+pub none_at : (cs : List (Option Change)) (i : ℕ) → cs ≡ replicate 128 None → get_or cs i None ≡ None
+none_at cs i e = ap (λ (l : List (Option Change)). get_or l i None) e ∙ none_anywhere 128 i

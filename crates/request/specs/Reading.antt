@@ -1,5 +1,5 @@
 -- Reading the data of a set or delete into changes of items.
-use Rattle.std.specs.Prelude.{◌≡◌, ℕ, ◌+◌, ◌%◌, ◌≤◌, cond, List, length, take, drop, Some, None, Ok, Err, Option, Result, ◌==◌, nat_lt}
+use Rattle.std.specs.Prelude.{◌≡◌, ℕ, ◌+◌, ◌%◌, ◌≤◌, cond, List, length, take, drop, Some, None, Ok, Err, Option, Result, ◌==◌, nat_lt, slice_index_or}
 use Rattle.item.specs.Keys.{size_of}
 use Rattle.item.specs.Values.{number}
 use Rattle.catalogue.specs.declared.entries.Entry.{Entry}
@@ -46,7 +46,12 @@ abbrev pub Within : ℕ → Result ℕ EntryFault → Type 0
 Within room (Ok n) = (4 ≤ n) × (n ≤ room)
 Within room (Err f) = Unit {0}
 
--- An entry that is read so was taken over the changes before, or refused; one that was taken has 4 bytes or more, and not more than there are.
+-- the slots behind the first n are the same
+abbrev pub SameBehind : ℕ → List (Option Change) → List (Option Change) → Type 0
+SameBehind n before after = (i : ℕ) → n ≤ i → slice_index_or after i None ≡ slice_index_or before i None
+
+-- An entry that is read so was taken over the changes before, or refused; one that was taken has 4 bytes or more, and not more than there are. The slots behind those of the items stay.
 pub record Taken (es : List Entry) (entry : Read Data) (room : ℕ) (before after : List (Option Change)) (r : Result ℕ EntryFault) : Type 0 where
   pub value : taken_as es after r ≡ read_map (over es before) entry
   pub within : Within room r
+  pub behind : SameBehind (length es) before after

@@ -1,10 +1,10 @@
 // The walk over the data of a set or delete: pairs of key and value, or keys and selectors, from byte 4 on and at most 64.
-ghost use Rattle.std.specs.Prelude.{◌≡◌, map, length, replicate, IfErr};
+ghost use Rattle.std.specs.Prelude.{◌≡◌, ◌≤◌, ℕ, map, length, replicate, slice_index_or, IfErr};
 ghost use Rattle.catalogue.specs.Owned.{entries_of};
 ghost use Rattle.item.specs.Selectors.{selector_of};
 ghost use Rattle.reference.specs.Requests.{read_map, pair_read, deletion_read, keys_named, named_read, deleted, latest, ok_map, data_of};
 ghost use Rattle.request.specs.Changes.{slots_of};
-ghost use Rattle.request.specs.Reading.{pair_in, fault_at, entry_read, Taken, read_as};
+ghost use Rattle.request.specs.Reading.{pair_in, fault_at, entry_read, SameBehind, Taken, read_as};
 
 use crate::change::Change;
 use crate::changes::ItemChanges;
@@ -132,7 +132,8 @@ impl Request<'_> {
     #[tactic(auto, using(crate::proofs::Walks::data_start, crate::proofs::Walks::data_end, crate::proofs::Walks::data_many))]
     fn take_entries(&self, catalogue: &Catalogue, changes: &mut ItemChanges) -> Result<(), Refusal>
         requires { slots_of changes.old ≡ replicate 128 None }
-        ensures { read_as (entries_of catalogue.now) (slots_of changes.new) result ≡ ok_map latest (data_of (entries_of catalogue.now) self.now.id self.now.payload.now) }
+        ensures value { read_as (entries_of catalogue.now) (slots_of changes.new) result ≡ ok_map latest (data_of (entries_of catalogue.now) self.now.id self.now.payload.now) }
+        ensures behind { SameBehind (length (entries_of catalogue.now)) (slots_of changes.old) (slots_of changes.new) }
     {
         // kept: entries differ in length, so no chunks or iterator of the library yields them
         let mut place = HEAD;
@@ -149,10 +150,11 @@ impl Request<'_> {
         Ok(())
     }
 
-    // What the data of a set or delete make of each item: the last value of a key stands. Refused data change none.
+    // What the data of a set or delete make of each item: the last value of a key stands. Refused data change none; none behind the items changes.
     // kept: the changes are written where the caller keeps them; they are some kilobytes, and a Result of them would be copied at each step
     pub fn read_data(&self, catalogue: &Catalogue, changes: &mut ItemChanges) -> Result<(), Refusal>
         ensures value { read_as (entries_of catalogue.now) (slots_of changes.new) result ≡ ok_map latest (data_of (entries_of catalogue.now) self.now.id self.now.payload.now) }
+        ensures behind { (i : ℕ) → length (entries_of catalogue.now) ≤ i → slice_index_or (slots_of changes.new) i None ≡ None }
         ensures refused { IfErr result (λ _. slots_of changes.new ≡ replicate 128 None) }
     {
         changes.forget();
