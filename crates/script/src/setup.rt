@@ -1,7 +1,7 @@
 // The set-up of a receiver: the parts of which it will be made, as the commands of a script bring them.
 ghost use Rattle.std.specs.Prelude.{◌≡◌, [], ◌∷◌, ◌++◌, is_ok, if◌then◌else◌};
 ghost use Rattle.layer.specs.Stores.{put_answer, remove_answer, clear_answer, after_put, after_remove, after_clear};
-ghost use Rattle.any_store.specs.Any.{any_settings, any_usable, any_kind, any_words};
+ghost use Rattle.any_store.specs.Any.{any_settings, any_usable, any_kind, any_words, any_words_put, any_words_removed, any_words_cleared};
 ghost use Rattle.std.specs.Borrow.{sem};
 ghost use Rattle.script.specs.Lending.{LendsStore};
 ghost use Rattle.script.specs.Setups.{kind_of, settings_in, words_of, store_at, other_place, Begun, SameParts};
@@ -100,6 +100,7 @@ impl Setup {
     pub fn put(&mut self, place: Place, key: u32, value: u64) -> Result<(), StoreFault>
         ensures answer { result ≡ put_answer (any_usable (store_at place self.old)) key value (any_settings (store_at place self.old)) }
         ensures after { any_settings (store_at place self.new) ≡ after_put result key value (any_settings (store_at place self.old)) }
+        ensures words { any_words (store_at place self.new) ≡ any_words_put key value (store_at place self.old) }
         ensures kind { any_kind (store_at place self.new) ≡ any_kind (store_at place self.old) }
         ensures other { store_at (other_place place) self.new ≡ store_at (other_place place) self.old }
         ensures parts { SameParts self.old self.new }
@@ -110,6 +111,7 @@ impl Setup {
     pub fn remove(&mut self, place: Place, key: u32) -> Result<(), StoreFault>
         ensures answer { result ≡ remove_answer (any_usable (store_at place self.old)) key }
         ensures after { any_settings (store_at place self.new) ≡ after_remove result key (any_settings (store_at place self.old)) }
+        ensures words { any_words (store_at place self.new) ≡ any_words_removed key (store_at place self.old) }
         ensures kind { any_kind (store_at place self.new) ≡ any_kind (store_at place self.old) }
         ensures other { store_at (other_place place) self.new ≡ store_at (other_place place) self.old }
         ensures parts { SameParts self.old self.new }
@@ -120,6 +122,7 @@ impl Setup {
     pub fn clear(&mut self, place: Place) -> Result<(), StoreFault>
         ensures answer { result ≡ clear_answer (any_usable (store_at place self.old)) }
         ensures after { any_settings (store_at place self.new) ≡ after_clear result (any_settings (store_at place self.old)) }
+        ensures words { any_words (store_at place self.new) ≡ any_words_cleared (store_at place self.old) }
         ensures kind { any_kind (store_at place self.new) ≡ any_kind (store_at place self.old) }
         ensures other { store_at (other_place place) self.new ≡ store_at (other_place place) self.old }
         ensures parts { SameParts self.old self.new }
