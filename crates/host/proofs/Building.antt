@@ -1,28 +1,18 @@
 -- A payload is built entry by entry: one entry further, and the end.
-use Rattle.std.proofs.Common.{◌≡◌, ℕ, ◌+◌, ◌<◌, ◌≤◌, List, ◌++◌, length, get_or, take, drop, Some, None, Ok, Err, Option, sym, refl, ap, ◌∙◌, ap₂, append_assoc, append-nil}
+use Rattle.std.proofs.Common.{◌≡◌, ℕ, ◌+◌, ◌<◌, ◌≤◌, List, ◌++◌, length, get_or, drop, Some, None, Ok, Err, Option, sym, refl, ap, ◌∙◌, append_assoc, append-nil}
 use Rattle.std.proofs.lemmas.List.{drop_more, drop_all}
-use Rattle.std.specs.Int.{w32, w64, to_le_bytes}
+use Rattle.std.specs.Int.{w32, to_le_bytes}
 use Rattle.std.specs.Option.{option_or}
-use Rattle.item.specs.declared.key.Size.{Size}
-use Rattle.item.specs.Keys.{size_of, width_of}
 use Rattle.item.specs.Values.{bytes_of}
-use Rattle.item.proofs.Values.{key_bytes_le, value_bytes_le}
+use Rattle.item.proofs.Values.{key_bytes_le}
 use Rattle.layer.specs.declared.setting.Setting.{Setting}
-use Rattle.layer.specs.Settings.{setting}
-use Rattle.reference.specs.Requests.{bytes_at}
 use Rattle.reference.specs.Receiver.{pair_bytes, pairs_bytes}
 use Rattle.host.specs.declared.fault.HostFault.{HostFault}
 use Rattle.host.specs.Refusals.{first_fault}
 use Rattle.host.specs.Payloads.{unless_fault}
 use Rattle.host.specs.Requests.{numbers_bytes}
 
--- The bytes of one entry
-
-pub pair_stands : (k v : ℕ) (s : Size) (before : List ℕ) → Some s ≡ size_of k
-    → (before ++ to_le_bytes w32 k) ++ take (width_of s) (to_le_bytes w64 v) ≡ before ++ pair_bytes (setting k v)
-pair_stands k v s before e =
-    append_assoc before (to_le_bytes w32 k) (take (width_of s) (to_le_bytes w64 v))
-    ∙ ap (λ (bs : List ℕ). before ++ bs) (ap₂ (λ (a b : List ℕ). a ++ b) (key_bytes_le k) (value_bytes_le s v) ∙ ap (λ (o : Option Size). bytes_of 4 k ++ bytes_of (bytes_at o) v) e)
+-- The bytes of one number
 
 pub number_stands : (n : ℕ) (before : List ℕ) → before ++ to_le_bytes w32 n ≡ before ++ bytes_of 4 n
 number_stands n before = ap (λ (bs : List ℕ). before ++ bs) (key_bytes_le n)

@@ -30,7 +30,7 @@ fn begun(head: [u8; HEAD]) -> ArrayVec<u8, MAX_PAYLOAD>
 }
 
 // Adds a pair: the key, then as many bytes of the value as its size has.
-#[tactic(auto, using(crate::proofs::Building::pair_stands))]
+#[tactic(auto, using(request::proofs::PairBytes::pair_stands))]
 fn add_setting(bytes: &mut ArrayVec<u8, MAX_PAYLOAD>, setting: Setting) -> Result<(), HostFault>
     requires room { array_vec_len bytes.old + 12 ≤ 772 }
     ensures answer { result ≡ unless_fault (setting_fault setting) tt }

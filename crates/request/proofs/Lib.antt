@@ -2,6 +2,7 @@ pub mod Faults
 pub mod Heads
 pub mod Joined
 pub mod Keys
+pub mod PairBytes
 pub mod Pairs
 pub mod Removals
 pub mod Settled

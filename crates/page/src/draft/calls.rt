@@ -49,7 +49,7 @@ impl Draft {
     }
 
     // Writes a pair behind the others: the key, then as many bytes of the value as its size has.
-    #[tactic(auto, using(crate::proofs::Pairs::has_size, crate::proofs::Pairs::width_few, crate::proofs::Pairs::pair_stands))]
+    #[tactic(auto, using(crate::proofs::Pairs::has_size, crate::proofs::Pairs::width_few, request::proofs::PairBytes::pair_stands))]
     fn put(&mut self, pair: &Pair)
         requires room { 0 < self.old.left }
         ensures after { payload_of self.new ≡ payload_of self.old ++ pair_bytes pair.now.setting }
