@@ -1,5 +1,5 @@
 -- Values told without trying: where a store holds a value under each key and each change puts one that fits, the configuration after the changes is these values.
-use Rattle.std.proofs.Common.{◌≡◌, ◌≢◌, ℕ, zero, suc, ◌+◌, ◌<◌, ◌≤◌, Bool, true, cond, List, [], ◌∷◌, ◌++◌, length, get_or, Some, None, Ok, Err, Option, MatchOption, sym, refl, ap, ◌∙◌, subst, below_more, arith}
+use Rattle.std.proofs.Common.{◌≡◌, ◌≢◌, ℕ, suc, ◌+◌, ◌<◌, ◌≤◌, Bool, true, cond, List, [], ◌∷◌, ◌++◌, length, get_or, Some, None, Ok, Err, Option, MatchOption, sym, refl, ap, ◌∙◌, subst, below_more, arith}
 use Rattle.std.proofs.lemmas.List.{get_or_append_left}
 use Rattle.std.proofs.Math.Seq.{get_or-append_seam}
 use Rattle.std.specs.Option.{unwrap_or}
@@ -16,6 +16,7 @@ use Rattle.reference.specs.Receiver.{written_one, written, configuration}
 use Rattle.request.specs.declared.change.Change.{Change}
 use Rattle.request.specs.declared.change.Change.TheVariants.{Put, Remove}
 use Rattle.request.specs.Changes.{change_of, changes_by}
+use Rattle.request.proofs.Settled.{key_above_lem}
 use Rattle.configuration.specs.Trying.{Becomes, StepTo}
 use Rattle.configuration.proofs.Written.{written_by, written_by_lem}
 
@@ -60,12 +61,6 @@ step_behind s s₂ k v c same t = record { before = t.before; is_held = same ∙
 abbrev pub Steps : Store → List Entry → List (Option Change) → List ℕ → ℕ → Type 0
 Steps s es cs vs n = (j : ℕ) → j < n → StepTo s (get_or es j blank).key (get_or cs j None) (get_or vs j 0)
 
-key_above : (n : ℕ) (es : List Entry) (i : ℕ) → Listed n es → i < length es → n < (get_or es i blank).key
-unfolding Listed
-key_above n [] i l lt = absurd (omega arith)
-key_above n (e ∷ es) zero l lt = l.0
-key_above n (e ∷ es) (suc i) l lt = let a = key_above e.key es i l.3 (omega arith) in omega (arith, l.0)
-
 module _ (e : Entry) (es : List Entry) (c : Option Change) (cs : List (Option Change)) (v : ℕ) (vs : List ℕ) (s : Store) (listed : Listed e.key es) (u : s.usable ≡ true) (t : Steps s (e ∷ es) (c ∷ cs) (v ∷ vs) (suc (length es))) where
   first : StepTo s e.key c v
   first = t 0 (omega arith)
@@ -73,7 +68,7 @@ module _ (e : Entry) (es : List Entry) (c : Option Change) (cs : List (Option Ch
   behind_first : Steps (after_one s u e.key c) es cs vs (length es)
   behind_first j lt =
       let k : ℕ = (get_or es j blank).key in
-      let higher = key_above e.key es j listed lt in
+      let higher = key_above_lem e.key es j listed lt in
       step_behind s (after_one s u e.key c) k (get_or vs j 0) (get_or cs j None) (other_after s u e.key v c k first (omega arith)) (t (suc j) (omega arith))
 
 -- what is held under lower keys stays

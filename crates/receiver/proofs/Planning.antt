@@ -1,8 +1,7 @@
 -- What a frame is judged to do, in the direction of the code's contracts.
-use Rattle.std.proofs.Common.{◌≡◌, ◌⊎◌, inl, inr, ℕ, zero, suc, Bool, true, false, is_some, List, [], ◌∷◌, replicate, Some, None, Ok, Err, Option, Result, sym, refl, ap, ◌∙◌, ap₂, arith}
+use Rattle.std.proofs.Common.{◌≡◌, ◌⊎◌, inl, inr, ℕ, Bool, true, false, is_some, List, replicate, Some, None, Ok, Err, Option, Result, sym, refl, ap, ◌∙◌, ap₂}
 use mathlib.Core.Path.{fun_ext}
 use Rattle.std.proofs.lemmas.Bool.{cond-true, cond-false}
-use Rattle.std.proofs.lemmas.Bool.Decides.{nat_tests}
 use Rattle.frame.specs.Frames.{Message}
 use Rattle.rule.specs.Rules.{Finding}
 use Rattle.reference.specs.declared.refusal.Refusal.{Refusal}
@@ -10,7 +9,7 @@ use Rattle.reference.specs.declared.layers.Layers.{Layers}
 use Rattle.reference.specs.Requests.{Catalogue, Changes, latest, and_later, ok_map, layers_of, action_of, data_of}
 use Rattle.reference.specs.Receiver.{State, Plan, queue, written, configuration, and_then, apply_fault, applying, queue_of, planned, judged_change}
 use Rattle.catalogue.specs.declared.entries.Entry.{Entry}
-use Rattle.std.specs.Option.{option_map, option_or}
+use Rattle.std.specs.Option.{option_map}
 use Rattle.request.specs.declared.change.Change.{Change}
 use Rattle.request.specs.declared.action.Action.{Action}
 use Rattle.request.specs.declared.action.Action.TheVariants.{Apply, Open, Add, Close}
@@ -21,6 +20,7 @@ use Rattle.receiver.specs.State.{opened_of}
 use Rattle.receiver.specs.Plans.{changes_for}
 use Rattle.request.specs.Head.{head_refusal, opened_layers, after_head}
 use Rattle.request.proofs.Heads.{judged_change_lem}
+use Rattle.request.proofs.Settled.{none_at, or_none_lem}
 
 module _ (cat : Catalogue) (rule : Finding) (s : State) (l : Layers) (d : Changes) where
   pub fault_unchosen : l.ram ≡ false → None ≡ apply_fault cat rule s l d
@@ -32,11 +32,6 @@ module _ (cat : Catalogue) (rule : Finding) (s : State) (l : Layers) (d : Change
   fault_found o e f = f ∙ sym (cond-true l.ram _ _ e)
 
 pub ruleset by_fault = (fault_unchosen, fault_found)
-
-none_at : (es : List Entry) (n k : ℕ) → changes_by es (replicate n None) k ≡ None
-none_at [] n k = refl
-none_at (e ∷ es) zero k = refl
-none_at (e ∷ es) (suc n) k = let h = none_at es n k in grind (arith, nat_tests)
 
 pub none_queued : (es : List Entry) (slots cs : List (Option Change)) (t : Option Transaction) → cs ≡ replicate 128 None → t ≡ None → changes_by es cs ≡ queue_of (option_map (opened_of es slots) t)
 none_queued es slots cs t e is = ap (changes_by es) e ∙ fun_ext (λ k. none_at es 128 k) ∙ sym (ap (λ o. queue_of (option_map (opened_of es slots) o)) is)
@@ -71,10 +66,6 @@ module _ (cat : Catalogue) (rule : Finding) (s : State) (m : Message) (l : Layer
   plan_applied a d r is e f = f ∙ applied_with a d is ∙ ap (λ (c : Result Changes Refusal). and_then c (done_with a)) e ∙ plan_is a
 
 -- What is queued, under changes
-
-or_none_lem : (x : Option (Option ℕ)) → option_or x None ≡ x
-or_none_lem None = refl
-or_none_lem (Some y) = refl
 
 module _ (es : List Entry) (slots : List (Option Change)) (t : Option Transaction) (old : List (Option Change)) where
   abbrev joined : Option Transaction → Changes

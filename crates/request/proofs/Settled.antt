@@ -10,7 +10,7 @@ use Rattle.request.specs.declared.change.Change.{Change}
 use Rattle.request.specs.Changes.{change_of, changes_by}
 use Rattle.request.specs.Reading.{over}
 
-or_none_lem : {A : Type 0} (x : Option A) → option_or x None ≡ x
+pub or_none_lem : {A : Type 0} (x : Option A) → option_or x None ≡ x
 or_none_lem None = refl
 or_none_lem (Some a) = refl
 
@@ -37,7 +37,7 @@ over_nil before = refl
 
 -- One item's slot
 
-key_above_lem : (n : ℕ) (es : List Entry) (i : ℕ) → Listed n es → i < length es → n < (get_or es i blank).key
+pub key_above_lem : (n : ℕ) (es : List Entry) (i : ℕ) → Listed n es → i < length es → n < (get_or es i blank).key
 unfolding Listed
 key_above_lem n [] i l lt = absurd (omega arith)
 key_above_lem n (e ∷ es) zero l lt = l.0
@@ -70,7 +70,7 @@ over_one es cs i c k v l few whole lt e is =
 
 -- at first no item changes
 
-none_at : (es : List Entry) (n k : ℕ) → changes_by es (replicate n None) k ≡ None
+pub none_at : (es : List Entry) (n k : ℕ) → changes_by es (replicate n None) k ≡ None
 none_at [] n k = refl
 none_at (e ∷ es) zero k = refl
 none_at (e ∷ es) (suc n) k = let h = none_at es n k in grind (arith, nat_tests)
