@@ -22,6 +22,7 @@ pub fn put_then_ask<S: Store>(
     ensures asked { AskedAs value (put_answer (S.Store.usable store.old) key value (S.Layer.settings store.old)) result }
     ensures after { S.Layer.settings store.new ≡ after_put (put_answer (S.Store.usable store.old) key value (S.Layer.settings store.old)) key value (S.Layer.settings store.old) }
     ensures mark { S.Store.usable store.new ≡ S.Store.usable store.old }
+    ensures memory { S.Store.memory store.new ≡ S.Store.memory_put key value store.old }
 {
     store.put(key, value)?;
     Ok(ask_again(store, key, value))

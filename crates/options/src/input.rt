@@ -26,7 +26,7 @@ impl Read for Input {
     }
 }
 
-// Hands the whole input to `each`, piece after piece and in order, so that no more than some ten kilobytes are held, whatever the input's length.
+// Hands the whole input to `each`, piece after piece and in order, so that no more than 32 KiB are held, whatever the input's length.
 // The first failure, of a read or of `each`, ends it.
 pub fn for_each_piece<R: Read, F: FnMut(&[u8]) -> anyhow::Result<()>>(
     input: &mut R,

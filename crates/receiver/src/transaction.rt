@@ -1,4 +1,4 @@
-// An open transaction, and what a granted frame is to do. What is to change stands beside both: it is some kilobytes.
+// An open transaction, and what a granted frame is to do. What is to change stands beside both: it is more than a kilobyte.
 use reference::Layers;
 
 // The ID of the transaction's kind, and the layers that it was opened for.

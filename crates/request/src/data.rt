@@ -151,7 +151,7 @@ impl Request<'_> {
     }
 
     // What the data of a set or delete make of each item: the last value of a key stands. Refused data change none; none behind the items changes.
-    // kept: the changes are written where the caller keeps them; they are some kilobytes, and a Result of them would be copied at each step
+    // kept: the changes are written where the caller keeps them; they are more than a kilobyte, and a Result of them would be copied at each step
     pub fn read_data(&self, catalogue: &Catalogue, changes: &mut ItemChanges) -> Result<(), Refusal>
         ensures value { read_as (entries_of catalogue.now) (slots_of changes.new) result ≡ ok_map latest (data_of (entries_of catalogue.now) self.now.id self.now.payload.now) }
         ensures behind { (i : ℕ) → length (entries_of catalogue.now) ≤ i → slice_index_or (slots_of changes.new) i None ≡ None }

@@ -37,6 +37,7 @@ impl Held {
         requires { count + length (bytes_held self.old) ≤ 780 }
         ensures held { bytes_held self.new ≡ bytes_held self.old }
         ensures room { self.new.end + count ≤ 1560 }
+        ensures stays { self.old.end + count ≤ 1560 → self.new.start ≡ self.old.start }
     {
         if self.end + count > ROOM {
             self.bytes.copy_within(self.start..self.end, 0);
