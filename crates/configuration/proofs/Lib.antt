@@ -5,4 +5,5 @@ pub mod Stores
 pub mod Strays
 pub mod Tables
 pub mod Tried
+pub mod Writes
 pub mod Written

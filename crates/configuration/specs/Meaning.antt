@@ -1,5 +1,5 @@
 -- The value of an item in a store, and the settings that a layer holds under a catalogue's keys.
-use Rattle.std.specs.Prelude.{◌≡◌, ℕ, true, List, [], ◌∷◌, Some, None, Option}
+use Rattle.std.specs.Prelude.{ℕ, true, List, [], ◌∷◌, Some, None, Option}
 use Rattle.std.specs.Option.{unwrap_or}
 use Rattle.catalogue.specs.declared.entries.Entry.{Entry}
 use Rattle.layer.specs.declared.setting.Setting.{Setting}
@@ -7,8 +7,6 @@ use Rattle.layer.specs.Settings.{value_under}
 use Rattle.layer.specs.Stores.{put_answer, after_put}
 use Rattle.reference.specs.Stores.{Store, held}
 use Rattle.reference.specs.Receiver.{pair_under}
-use Rattle.reference.specs.declared.call.Battery.{Battery}
-use Rattle.reference.specs.declared.call.Battery.TheVariants.{Kept, Lost}
 
 -- the value of an item: the one that is held, else the default
 abbrev pub item_value : Store → Entry → ℕ
@@ -23,8 +21,3 @@ held_under (e ∷ es) ss = pair_under e.key (value_under e.key ss) (held_under e
 abbrev pub gathering : ℕ → Option ℕ → List Setting → List Setting
 gathering k None ss = ss
 gathering k (Some v) ss = after_put (put_answer true k v ss) k v ss
-
--- a store that the battery kept is the same store after it
-abbrev pub SameIfKept : {S : Type 0} → Battery → S → S → Type 0
-SameIfKept Kept before after = after ≡ before
-SameIfKept Lost before after = Unit {0}

@@ -3,7 +3,7 @@ ghost use Rattle.std.specs.Prelude.{◌≡◌};
 ghost use Rattle.catalogue.specs.Owned.{entries_of};
 ghost use Rattle.reference.specs.Receiver.{written_one, written, after_battery};
 ghost use Rattle.request.specs.Changes.{change_of, changes_by, slots_of};
-ghost use Rattle.configuration.specs.Meaning.{SameIfKept};
+ghost use Rattle.configuration.specs.Writes.{WroteOne, Wrote, WroteByBattery};
 
 use crate::meaning::StoreMeaning;
 use crate::writing::{clear_all, put_value, remove_value};
@@ -14,7 +14,8 @@ use request::{Change, ItemChanges};
 
 // One item's change, if it has one.
 fn apply_one<S: Store>(store: &mut S, key: u32, change: Option<Change>)
-    ensures { ⟦<S as StoreMeaning>⟧.store store.new ≡ written_one (change_of change) key (⟦<S as StoreMeaning>⟧.store store.old) }
+    ensures after { ⟦<S as StoreMeaning>⟧.store store.new ≡ written_one (change_of change) key (⟦<S as StoreMeaning>⟧.store store.old) }
+    ensures wrote { WroteOne ⟦<S as StoreMeaning>⟧.memory (change_of change) key store.old store.new }
 {
     match change {
         None => {}
@@ -23,20 +24,21 @@ fn apply_one<S: Store>(store: &mut S, key: u32, change: Option<Change>)
     }
 }
 
-// Applies what becomes of each item, in ascending key order. What the store refuses is passed over.
+// Applies what becomes of each item, in ascending key order, each by one write. What the store refuses is passed over.
 #[tactic(auto, using(crate::proofs::Written::by_end))]
 pub fn apply_changes<S: Store>(catalogue: &Catalogue, changes: &ItemChanges, store: &mut S)
-    ensures { ⟦<S as StoreMeaning>⟧.store store.new ≡ written (entries_of catalogue.now) (changes_by (entries_of catalogue.now) (slots_of changes.now)) (⟦<S as StoreMeaning>⟧.store store.old) }
+    ensures after { ⟦<S as StoreMeaning>⟧.store store.new ≡ written (entries_of catalogue.now) (changes_by (entries_of catalogue.now) (slots_of changes.now)) (⟦<S as StoreMeaning>⟧.store store.old) }
+    ensures wrote { Wrote ⟦<S as StoreMeaning>⟧.memory (entries_of catalogue.now) (changes_by (entries_of catalogue.now) (slots_of changes.now)) store.old store.new }
 {
     for (item, entry) in catalogue.entries().iter().enumerate() {
         apply_one(store, entry.key, changes.at(item));
     }
 }
 
-// A store that the battery keeps: cleared where it was lost, else not written to.
+// A store that the battery keeps: cleared once where it was lost, else not written to.
 pub fn after_battery<S: Store>(battery: Battery, store: &mut S)
-    ensures same { SameIfKept battery store.old store.new }
     ensures after { ⟦<S as StoreMeaning>⟧.store store.new ≡ after_battery battery (⟦<S as StoreMeaning>⟧.store store.old) }
+    ensures wrote { WroteByBattery ⟦<S as StoreMeaning>⟧.memory battery store.old store.new }
 {
     match battery {
         Battery::Kept => {}

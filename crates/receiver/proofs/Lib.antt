@@ -10,3 +10,4 @@ pub mod Made
 pub mod Planning
 pub mod Small
 pub mod Says
+pub mod Stores

@@ -4,9 +4,6 @@ use Rattle.reference.specs.declared.refusal.Verdict.{Verdict}
 use Rattle.reference.specs.declared.refusal.Verdict.TheVariants.{Outside, Ack, Nak}
 use Rattle.reference.specs.declared.fault.CallFault.{CallFault}
 use Rattle.reference.specs.declared.layers.Layers.{Layers}
-use Rattle.reference.specs.declared.call.Battery.{Battery}
-use Rattle.configuration.specs.Meaning.{SameIfKept}
-use Rattle.receiver.specs.declared.state.Receiver.{Receiver}
 use Rattle.reference.specs.declared.answered.Answered.{Answered}
 use Rattle.reference.specs.declared.answered.Telling.{Telling}
 use Rattle.reference.specs.Requests.{Catalogue, Changes}
@@ -31,27 +28,6 @@ NakTold (Some t) before after out = NakedBy t.verdict before after t.class t.id 
 abbrev pub NakLeaves : Result Answered CallFault → State → State → List ℕ → Type 0
 NakLeaves (Ok a) before after out = NakTold a.told before after out
 NakLeaves (Err f) before after out = Unit {0}
-
--- What a restart leaves of the stores themselves: Flash is not written to, nor a BBR that the battery kept; and a refused one writes to none.
-abbrev pub RestartLeaves : {B F R : Type 0} → Battery → Result (Option ℕ) CallFault → Receiver B F R → Receiver B F R → Type 0
-RestartLeaves battery (Ok fault) before after =
-    SameIfKept battery before.layers.upper.upper after.layers.upper.upper × (after.layers.upper.lower ≡ before.layers.upper.lower)
-RestartLeaves battery (Err f) before after = after.layers ≡ before.layers
-
--- a frame that changes no layer leaves the stores themselves as they were
-abbrev pub SameUnlessAcked : {L : Type 0} → Verdict → L → L → Type 0
-SameUnlessAcked Outside before after = after ≡ before
-SameUnlessAcked Ack before after = Unit {0}
-SameUnlessAcked (Nak r) before after = after ≡ before
-
-abbrev pub SameUnlessTold : {L : Type 0} → Option Telling → L → L → Type 0
-SameUnlessTold None before after = after ≡ before
-SameUnlessTold (Some t) before after = SameUnlessAcked t.verdict before after
-
--- and so does an answering that finds no such frame, or is refused
-abbrev pub AnswerLeaves : {L : Type 0} → Result Answered CallFault → L → L → Type 0
-AnswerLeaves (Ok a) before after = SameUnlessTold a.told before after
-AnswerLeaves (Err f) before after = after ≡ before
 
 -- one change of the chosen layers
 pub record Changed (cat : Catalogue) (before after : State) : Type 0 where

@@ -4,7 +4,7 @@ ghost use Rattle.reference.specs.declared.fault.CallFault.TheVariants.{Shut};
 ghost use Rattle.reference.specs.Events.{take_piece, look_at, restart_with};
 ghost use Rattle.reference.specs.Requests.{is_known};
 ghost use Rattle.receiver.specs.State.{items_of, Kept, took_event, looked_event, restarted_event};
-ghost use Rattle.receiver.specs.Small.{RestartLeaves};
+ghost use Rattle.receiver.specs.Stores.{WroteRestart};
 
 use super::Receiver;
 use super::meaning::Meaning;
@@ -87,7 +87,7 @@ impl<B: Store, F: Store, R: Rule> Receiver<B, F, R> {
         ensures after { ⟦<Self as Meaning>⟧.state self.new ≡ (⟦<Self as Meaning>⟧.step self.old (restart_with battery)).state }
         ensures event { restarted_event battery result ≡ (⟦<Self as Meaning>⟧.step self.old (restart_with battery)).event }
         ensures kept { Kept self.old self.new }
-        ensures stores { RestartLeaves battery result self.old self.new }
+        ensures stores { WroteRestart ⟦<B as StoreMeaning>⟧.memory battery result self.old.layers self.new.layers }
     {
         self.check_open()?;
         after_battery(battery, &mut self.layers.upper.upper);

@@ -1,14 +1,15 @@
 // Carrying out what a frame was judged to do, and telling it.
-ghost use Rattle.std.specs.Prelude.{◌≡◌, ◌≤◌, length, Some};
+ghost use Rattle.std.specs.Prelude.{◌≡◌, ◌≤◌, [], length, Some};
 ghost use Rattle.frame.specs.Frames.{frame_bytes};
 ghost use Rattle.frame.specs.Written.{patched};
 ghost use Rattle.catalogue.specs.Owned.{entries_of};
 ghost use Rattle.request.specs.Changes.{changes_by, slots_of};
-ghost use Rattle.reference.specs.Receiver.{with_transaction, written_if, applied, of_kind};
+ghost use Rattle.reference.specs.Receiver.{with_transaction, written_if, apply, applied, of_kind};
 ghost use Rattle.receiver.specs.State.{items_of, opened_of, Kept};
 ghost use Rattle.receiver.specs.Written.{verdict_on};
-ghost use Rattle.receiver.specs.Small.{SameUnlessAcked};
-ghost use Rattle.receiver.specs.Plans.{after_plan, after_grant, after_verdict, grant_length, reply_length, verdict_id, told_by};
+ghost use Rattle.configuration.specs.Writes.{WroteIf};
+ghost use Rattle.receiver.specs.Stores.{WrotePlan, WroteJudged};
+ghost use Rattle.receiver.specs.Plans.{plan_of, grant_of, verdicted_of, after_plan, after_grant, after_verdict, grant_length, reply_length, verdict_id, told_by};
 
 use super::Receiver;
 use super::handling::ANSWER_ROOM;
@@ -26,7 +27,8 @@ use rule::Rule;
 // Changes a layer where it is chosen.
 // kept: the condition is a parameter, since three `if`s in `apply` would each want the proof that a layer which is not chosen stays
 fn apply_if<S: Store>(chosen: bool, catalogue: &Catalogue, changes: &ItemChanges, store: &mut S)
-    ensures { ⟦<S as StoreMeaning>⟧.store store.new ≡ written_if chosen (entries_of catalogue.now) (changes_by (entries_of catalogue.now) (slots_of changes.now)) (⟦<S as StoreMeaning>⟧.store store.old) }
+    ensures after { ⟦<S as StoreMeaning>⟧.store store.new ≡ written_if chosen (entries_of catalogue.now) (changes_by (entries_of catalogue.now) (slots_of changes.now)) (⟦<S as StoreMeaning>⟧.store store.old) }
+    ensures wrote { WroteIf ⟦<S as StoreMeaning>⟧.memory chosen (entries_of catalogue.now) (changes_by (entries_of catalogue.now) (slots_of changes.now)) store.old store.new }
 {
     if chosen {
         apply_changes(catalogue, changes, store);
@@ -39,6 +41,7 @@ impl<B: Store, F: Store, R: Rule> Receiver<B, F, R> {
     fn apply(&mut self, layers: Layers, items: &ItemChanges)
         ensures after { ⟦<Self as Meaning>⟧.state self.new ≡ applied (items_of self.old) (⟦<Self as Meaning>⟧.state self.old) layers (changes_by (items_of self.old) (slots_of items.now)) }
         ensures kept { Kept self.old self.new }
+        ensures stores { WrotePlan ⟦<B as StoreMeaning>⟧.memory ⟦<F as StoreMeaning>⟧.memory (items_of self.old) (apply layers (changes_by (items_of self.old) (slots_of items.now))) self.old.layers self.new.layers }
     {
         let catalogue = &self.layers.lower.catalogue;
         apply_if(layers.ram, catalogue, items, &mut self.ram);
@@ -51,6 +54,7 @@ impl<B: Store, F: Store, R: Rule> Receiver<B, F, R> {
     fn keep_open(&mut self, transaction: Transaction, items: &ItemChanges)
         ensures after { ⟦<Self as Meaning>⟧.state self.new ≡ with_transaction (⟦<Self as Meaning>⟧.state self.old) (Some (opened_of (items_of self.old) (slots_of items.now) transaction)) }
         ensures kept { Kept self.old self.new }
+        ensures stores { self.new.layers ≡ self.old.layers }
     {
         self.queue = *items;
         self.transaction = Some(transaction);
@@ -60,6 +64,7 @@ impl<B: Store, F: Store, R: Rule> Receiver<B, F, R> {
     fn carry_out(&mut self, plan: Plan, items: &ItemChanges)
         ensures after { ⟦<Self as Meaning>⟧.state self.new ≡ after_plan (items_of self.old) (⟦<Self as Meaning>⟧.state self.old) (slots_of items.now) plan }
         ensures kept { Kept self.old self.new }
+        ensures stores { WrotePlan ⟦<B as StoreMeaning>⟧.memory ⟦<F as StoreMeaning>⟧.memory (items_of self.old) (plan_of (items_of self.old) (slots_of items.now) plan) self.old.layers self.new.layers }
     {
         match plan {
             Plan::Apply(layers) => self.apply(layers, items),
@@ -85,6 +90,7 @@ impl<B: Store, F: Store, R: Rule> Receiver<B, F, R> {
         ensures value { result ≡ grant_length granted }
         ensures after { ⟦<Self as Meaning>⟧.state self.new ≡ after_grant (items_of self.old) (⟦<Self as Meaning>⟧.state self.old) (slots_of items.now) granted }
         ensures kept { Kept self.old self.new }
+        ensures stores { WrotePlan ⟦<B as StoreMeaning>⟧.memory ⟦<F as StoreMeaning>⟧.memory (items_of self.old) (grant_of (items_of self.old) (slots_of items.now) [] granted) self.old.layers self.new.layers }
     {
         match granted {
             Granted::Change(plan) => {
@@ -109,7 +115,7 @@ impl<B: Store, F: Store, R: Rule> Receiver<B, F, R> {
         ensures out { out.new ≡ patched (reply_length judged) (frame_bytes (verdict_on (verdict_id judged) frame.id)) out.old }
         ensures after { ⟦<Self as Meaning>⟧.state self.new ≡ after_verdict (items_of self.old) (⟦<Self as Meaning>⟧.state self.old) (slots_of items.now) judged }
         ensures kept { Kept self.old self.new }
-        ensures stores { SameUnlessAcked result.verdict self.old.layers self.new.layers }
+        ensures stores { WroteJudged ⟦<B as StoreMeaning>⟧.memory ⟦<F as StoreMeaning>⟧.memory (items_of self.old) (verdicted_of (items_of self.old) (slots_of items.now) out.old judged) self.old.layers self.new.layers }
     {
         match judged {
             Ok(granted) => {

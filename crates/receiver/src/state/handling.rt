@@ -1,5 +1,6 @@
 // Answering: the first frame in the held bytes is judged, carried out and told.
-ghost use Rattle.std.specs.Prelude.{◌≡◌, ◌≤◌, length};
+ghost use Rattle.std.specs.Prelude.{◌≡◌, ◌≤◌, length, Some};
+ghost use Rattle.frame.specs.Scanning.{finding};
 ghost use Rattle.frame.specs.Written.{in_front};
 ghost use Rattle.request.specs.Changes.{slots_of};
 ghost use Rattle.held.specs.Meaning.{bytes_held};
@@ -9,13 +10,15 @@ ghost use Rattle.receiver.specs.Plans.{Judged};
 ghost use Rattle.reference.specs.Events.{answer_into, written_by};
 ghost use Rattle.receiver.specs.First.{message_in, end_of, FirstIs};
 ghost use Rattle.receiver.specs.State.{items_of, Kept, answer_event};
-ghost use Rattle.receiver.specs.Small.{RefusedLeaves, NakLeaves, AllOrNone, SameUnlessAcked, SameUnlessTold, AnswerLeaves};
+ghost use Rattle.receiver.specs.Small.{RefusedLeaves, NakLeaves, AllOrNone};
+ghost use Rattle.receiver.specs.Stores.{judgement_on, WroteFor, WroteAnswer};
 ghost use Rattle.receiver.specs.Handled.{handled_here, Answering, answering_of, length_of};
 
 use super::Receiver;
 use super::meaning::Meaning;
 use crate::first::HeldFrame;
 use crate::transaction::Granted;
+use configuration::StoreMeaning;
 use frame::HEADER;
 use layer::Store;
 use reference::{Answered, CallFault, Refusal, Telling, Verdict};
@@ -50,7 +53,7 @@ impl<B: Store, F: Store, R: Rule> Receiver<B, F, R> {
         requires fits { end_of frame ≤ length (bytes_held self.old.held) }
         ensures handling { Answering (handled_here (items_of self.old) (R.Rule.finding self.old.rule) (⟦<Self as Meaning>⟧.state self.old) frame) (⟦<Self as Meaning>⟧.state self.new) out.old out.new (record { noise = frame.noise; told = Some result }) }
         ensures kept { Kept self.old self.new }
-        ensures stores { SameUnlessAcked result.verdict self.old.layers self.new.layers }
+        ensures stores { WroteFor ⟦<B as StoreMeaning>⟧.memory ⟦<F as StoreMeaning>⟧.memory (items_of self.old) (judgement_on (items_of self.old) (R.Rule.finding self.old.rule) (⟦<Self as Meaning>⟧.state self.old) (Some (message_in (bytes_held self.old.held) frame))) self.old.layers self.new.layers }
     {
         if !is_configuration(frame.class) {
             self.held.skip(frame.end());
@@ -68,7 +71,7 @@ impl<B: Store, F: Store, R: Rule> Receiver<B, F, R> {
     fn answer_first(&mut self, out: &mut [u8; ANSWER_ROOM]) -> Answered
         ensures answering { Answering (answering_of (items_of self.old) (R.Rule.finding self.old.rule) (⟦<Self as Meaning>⟧.state self.old)) (⟦<Self as Meaning>⟧.state self.new) out.old out.new result }
         ensures kept { Kept self.old self.new }
-        ensures stores { SameUnlessTold result.told self.old.layers self.new.layers }
+        ensures stores { WroteFor ⟦<B as StoreMeaning>⟧.memory ⟦<F as StoreMeaning>⟧.memory (items_of self.old) (judgement_on (items_of self.old) (R.Rule.finding self.old.rule) (⟦<Self as Meaning>⟧.state self.old) (finding (bytes_held self.old.held)).message) self.old.layers self.new.layers }
     {
         match self.first() {
             Ok(frame) => {
@@ -102,7 +105,7 @@ impl<B: Store, F: Store, R: Rule> Receiver<B, F, R> {
         ensures nak { NakLeaves result (⟦<Self as Meaning>⟧.state self.old) (⟦<Self as Meaning>⟧.state self.new) out.new }
         ensures all { AllOrNone (items_of self.old) (⟦<Self as Meaning>⟧.state self.old) (⟦<Self as Meaning>⟧.state self.new) }
         ensures kept { Kept self.old self.new }
-        ensures stores { AnswerLeaves result self.old.layers self.new.layers }
+        ensures stores { WroteAnswer ⟦<B as StoreMeaning>⟧.memory ⟦<F as StoreMeaning>⟧.memory (items_of self.old) (judgement_on (items_of self.old) (R.Rule.finding self.old.rule) (⟦<Self as Meaning>⟧.state self.old) (finding (⟦<Self as Meaning>⟧.state self.old).held_bytes).message) result self.old.layers self.new.layers }
     {
         self.check_open()?;
         let room = out
