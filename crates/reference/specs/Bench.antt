@@ -17,7 +17,7 @@ use Rattle.reference.specs.Answers.{refusal_number, refusal_place, call_fault_nu
 use Rattle.reference.specs.Stores.{Settings}
 use Rattle.reference.specs.Requests.{configuration_class, valset, valget, valdel, keys_named}
 use Rattle.reference.specs.Parts.{Parts, parts_of, parts_fault, settings_by, default_of}
-use Rattle.reference.specs.Events.{Asking, take_piece, answer_into, restart_with, Event, took, nothing_whole, told, restarted, refused}
+use Rattle.reference.specs.Events.{Asking, take_piece, answer_into, look_at, restart_with, Event, took, nothing_whole, told, looked, restarted, refused}
 use Rattle.reference.specs.Receiver.{run}
 
 -- The parts
@@ -193,6 +193,10 @@ pub record BenchCases : Type 0 where
       answers (take_piece bbr05 ∷ answer_into 790 ∷ restart_with Kept ∷ [])
       ≡ took bbr05 17 ∷ told 0 6 0x8a Ack ack_set ∷ restarted Kept (Some 2) ∷ []
   pub case8_ram : ram_after (take_piece bbr05 ∷ answer_into 790 ∷ restart_with Kept ∷ []) ≡ settings_by default_of bench
+  pub case8_looks :
+      answers (take_piece bbr05 ∷ answer_into 790 ∷ restart_with Kept ∷ look_at 0 0x20510001 ∷ look_at 1 0x20510001 ∷ [])
+      ≡ took bbr05 17 ∷ told 0 6 0x8a Ack ack_set ∷ restarted Kept (Some 2) ∷ looked 0 0x20510001 (Some 65) ∷ looked 1 0x20510001 (Some 5) ∷ []
+  pub case8_lost : (run bench_parts (take_piece bbr05 ∷ answer_into 790 ∷ restart_with Kept ∷ restart_with Lost ∷ [])).state.bbr.settings ≡ []
   -- beyond the eight: noise before a frame is counted, and the undecided byte behind it is none
   pub noise_counted :
       answers (take_piece (0x00 ∷ 0x62 ∷ 0xb5 ∷ set42 ++ 0xb5 ∷ []) ∷ answer_into 790 ∷ answer_into 790 ∷ [])
