@@ -1,7 +1,8 @@
 // The catalogue: which items there are, with their defaults and bounds. It is a lent slice of entries; an item's number is its entry's place.
-ghost use Rattle.std.specs.Prelude.{◌≡◌, ◌<◌, length, IfSome, OnOk};
+ghost use Rattle.std.specs.Prelude.{◌≡◌, ◌<◌, length, IfSome, OnOk, Some};
 ghost use Rattle.item.specs.Selectors.{selector_of};
 ghost use Rattle.catalogue.specs.Catalogues.{signed_at_most, at_most, allows, kind_suits, read_fits, entry_checked, entries_checked, catalogue_checked, fault_number, fault_entry, OnlyOnce, Accepted, FirstWith, NextNamed, FirstNamed};
+ghost use Rattle.catalogue.specs.Texts.{catalogue_fault_text};
 
 use crate::kind::Kind;
 use item::{Selector, Size, fits_key, is_well_formed, size_of};
@@ -34,6 +35,8 @@ pub enum CatalogueFault {
 }
 
 impl fmt::Display for CatalogueFault {
+    ghost output = { λ fault. Some (catalogue_fault_text fault) };
+
     fn fmt<W: fmt::Write>(&self, f: &mut fmt::Formatter<W>) -> fmt::Result {
         let entry = self.entry();
         match self {

@@ -3,3 +3,4 @@ mod Examples
 pub mod Frames
 pub mod Scanning
 pub mod Written
+pub mod Texts

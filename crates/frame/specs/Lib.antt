@@ -3,3 +3,4 @@ pub mod Frames
 pub mod Meaning
 pub mod Scanning
 pub mod Written
+pub mod Texts

@@ -1,9 +1,10 @@
 // Writing a frame into a caller's buffer.
-ghost use Rattle.std.specs.Prelude.{◌≡◌, ◌+◌, ◌≤◌, ◌↔◌, length, take, is_ok, IfOk, if◌then◌else◌};
+ghost use Rattle.std.specs.Prelude.{◌≡◌, ◌+◌, ◌≤◌, ◌↔◌, length, take, is_ok, IfOk, if◌then◌else◌, Some};
 ghost use Rattle.frame.specs.Frames.{max_payload, size_of, frame_bytes};
 ghost use Rattle.frame.specs.Meaning.{message_of};
 ghost use Rattle.frame.specs.Scanning.{HeardAs};
 ghost use Rattle.frame.specs.Written.{patched, in_front, written};
+ghost use Rattle.frame.specs.Texts.{write_fault_text};
 
 use crate::format::{Frame, HEADER, MAX_FRAME, MAX_PAYLOAD, PREAMBLE, TRAILER};
 use crate::sums::check_bytes;
@@ -19,6 +20,8 @@ pub enum WriteFault {
 }
 
 impl fmt::Display for WriteFault {
+    ghost output = { λ fault. Some (write_fault_text fault) };
+
     fn fmt<W: fmt::Write>(&self, f: &mut fmt::Formatter<W>) -> fmt::Result {
         match self {
             WriteFault::PayloadTooLong => f.write_str("the payload has more than 772 bytes"),

@@ -3,3 +3,4 @@ pub mod Heard
 pub mod Payloads
 pub mod Refusals
 pub mod Requests
+pub mod Texts

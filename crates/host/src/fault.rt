@@ -1,6 +1,7 @@
 // Why a request is not written.
-ghost use Rattle.std.specs.Prelude.{◌≡◌};
+ghost use Rattle.std.specs.Prelude.{◌≡◌, Some};
 ghost use Rattle.host.specs.Refusals.{fault_number};
+ghost use Rattle.host.specs.Texts.{host_fault_text};
 
 use std::error::Error;
 use std::fmt;
@@ -39,6 +40,8 @@ impl HostFault {
 }
 
 impl fmt::Display for HostFault {
+    ghost output = { λ fault. Some (host_fault_text fault) };
+
     fn fmt<W: fmt::Write>(&self, f: &mut fmt::Formatter<W>) -> fmt::Result {
         f.write_str(match self {
             HostFault::WrongLayers => "no layer is chosen, or one that the request cannot name",

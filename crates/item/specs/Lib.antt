@@ -1,3 +1,4 @@
 pub mod Keys
 pub mod Selectors
 pub mod Values
+pub mod Texts

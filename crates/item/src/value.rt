@@ -3,6 +3,7 @@ ghost use Rattle.std.specs.Prelude.{◌≡◌, ◌+◌, ◌*◌, ◌%◌, ◌^�
 ghost use Rattle.frame.specs.Written.{patched};
 ghost use Rattle.item.specs.Keys.{width_of, limit_of, fits};
 ghost use Rattle.item.specs.Values.{number as number_of, bytes_of, value_bytes, value_in, value_read, ReadAs, value_written};
+ghost use Rattle.item.specs.Texts.{value_fault_text};
 
 use crate::arrays::padded;
 use crate::key::Size;
@@ -18,6 +19,8 @@ pub enum ValueFault {
 }
 
 impl fmt::Display for ValueFault {
+    ghost output = { λ fault. Some (value_fault_text fault) };
+
     fn fmt<W: fmt::Write>(&self, f: &mut fmt::Formatter<W>) -> fmt::Result {
         match self {
             ValueFault::Unfit => f.write_str("the value does not fit its size"),

@@ -4,3 +4,4 @@ pub mod Inspecting
 pub mod Meaning
 pub mod Writing
 pub mod JournalLemmas
+pub mod Texts

@@ -1,6 +1,7 @@
 // Why a buffer of words is no journal: what is wrong, and at which word.
-ghost use Rattle.std.specs.Prelude.{◌≡◌};
+ghost use Rattle.std.specs.Prelude.{◌≡◌, Some};
 ghost use Rattle.journal.specs.Faults.{fault_number, fault_word};
+ghost use Rattle.journal.specs.Texts.{journal_fault_text};
 
 use std::error::Error;
 use std::fmt;
@@ -49,6 +50,8 @@ impl JournalFault {
 }
 
 impl fmt::Display for JournalFault {
+    ghost output = { λ fault. Some (journal_fault_text fault) };
+
     fn fmt<W: fmt::Write>(&self, f: &mut fmt::Formatter<W>) -> fmt::Result {
         match self {
             JournalFault::WordCount => f.write_str("a journal has 640 to 16384 words"),

@@ -1,3 +1,4 @@
 pub mod Settings
 pub mod Stores
 pub mod SettingsLemmas
+pub mod Texts

@@ -1,6 +1,7 @@
 // Why a store refuses a write.
-ghost use Rattle.std.specs.Prelude.{◌≡◌};
+ghost use Rattle.std.specs.Prelude.{◌≡◌, Some};
 ghost use Rattle.layer.specs.Stores.{refusal_number};
+ghost use Rattle.layer.specs.Texts.{store_fault_text};
 
 use std::error::Error;
 use std::fmt;
@@ -26,6 +27,8 @@ impl StoreFault {
 }
 
 impl fmt::Display for StoreFault {
+    ghost output = { λ fault. Some (store_fault_text fault) };
+
     fn fmt<W: fmt::Write>(&self, f: &mut fmt::Formatter<W>) -> fmt::Result {
         match self {
             StoreFault::Unusable => f.write_str("the store is not usable"),

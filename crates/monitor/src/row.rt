@@ -1,4 +1,7 @@
 // The lines of a listing: a row for each frame, and the counts at the end.
+ghost use Rattle.std.specs.Prelude.{Some};
+ghost use Rattle.monitor.specs.Texts.{row_text, counts_text};
+
 use std::fmt;
 
 // A heard frame by its place on the line, its class and ID, and the length of its payload.
@@ -11,6 +14,8 @@ pub struct Row {
 }
 
 impl fmt::Display for Row {
+    ghost output = { λ row. Some (row_text row) };
+
     fn fmt<W: fmt::Write>(&self, f: &mut fmt::Formatter<W>) -> fmt::Result {
         let Row {
             place,
@@ -31,6 +36,8 @@ pub struct Counts {
 }
 
 impl fmt::Display for Counts {
+    ghost output = { λ counts. Some (counts_text counts) };
+
     fn fmt<W: fmt::Write>(&self, f: &mut fmt::Formatter<W>) -> fmt::Result {
         let Counts {
             frames,

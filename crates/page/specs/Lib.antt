@@ -1,3 +1,4 @@
 pub mod Drafts
 pub mod Pages
 pub mod Walks
+pub mod Texts

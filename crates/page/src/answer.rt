@@ -1,11 +1,12 @@
 // The page's frame, written into a caller's buffer.
-ghost use Rattle.std.specs.Prelude.{◌≡◌, ◌≤◌, length};
+ghost use Rattle.std.specs.Prelude.{◌≡◌, ◌≤◌, length, Some};
 ghost use Rattle.catalogue.specs.Owned.{entries_of};
 ghost use Rattle.frame.specs.Written.{in_front};
 ghost use Rattle.reference.specs.Requests.{ok_map};
 ghost use Rattle.page.specs.Drafts.{draft_frame};
 ghost use Rattle.page.specs.Pages.{page_bytes, page_answer, page_out};
 ghost use Rattle.page.specs.declared.answer.PageFault.TheVariants.{Refused};
+ghost use Rattle.page.specs.Texts.{page_fault_text};
 
 use crate::draft::Draft;
 use crate::entry::number_in;
@@ -34,6 +35,8 @@ impl From<Refusal> for PageFault {
 }
 
 impl fmt::Display for PageFault {
+    ghost output = { λ fault. Some (page_fault_text fault) };
+
     fn fmt<W: fmt::Write>(&self, f: &mut fmt::Formatter<W>) -> fmt::Result {
         match self {
             PageFault::Refused(fault) => write!(f, "{fault}"),

@@ -9,3 +9,4 @@ pub mod Promise
 pub mod Bench
 pub mod Teeth
 pub mod Noise
+pub mod Texts

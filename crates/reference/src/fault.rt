@@ -1,7 +1,8 @@
 // Why a call is refused, and why the parts of a receiver are.
-ghost use Rattle.std.specs.Prelude.{◌≡◌};
+ghost use Rattle.std.specs.Prelude.{◌≡◌, Some};
 ghost use Rattle.reference.specs.declared.fault.PartsFault.TheVariants.{Catalogue};
 ghost use Rattle.reference.specs.Answers.{call_fault_number, parts_fault_number, parts_fault_entry, parts_fault_layer, parts_fault_key, parts_fault_item};
+ghost use Rattle.reference.specs.Texts.{call_fault_text, parts_fault_text};
 
 use catalogue::CatalogueFault;
 use std::error::Error;
@@ -30,6 +31,8 @@ impl CallFault {
 }
 
 impl fmt::Display for CallFault {
+    ghost output = { λ fault. Some (call_fault_text fault) };
+
     fn fmt<W: fmt::Write>(&self, f: &mut fmt::Formatter<W>) -> fmt::Result {
         match self {
             CallFault::Shut => f.write_str("the receiver is shut: its parts were refused"),
@@ -121,6 +124,8 @@ impl From<CatalogueFault> for PartsFault {
 }
 
 impl fmt::Display for PartsFault {
+    ghost output = { λ fault. Some (parts_fault_text fault) };
+
     fn fmt<W: fmt::Write>(&self, f: &mut fmt::Formatter<W>) -> fmt::Result {
         match self {
             PartsFault::Catalogue(fault) => write!(f, "{fault}"),

@@ -1,6 +1,7 @@
 // Why a frame of the configuration class is refused, and the verdict that a frame gets.
-ghost use Rattle.std.specs.Prelude.{◌≡◌};
+ghost use Rattle.std.specs.Prelude.{◌≡◌, Some};
 ghost use Rattle.reference.specs.Answers.{refusal_number, refusal_place, verdict_number};
+ghost use Rattle.reference.specs.Texts.{refusal_text, verdict_text};
 
 use std::error::Error;
 use std::fmt;
@@ -74,6 +75,8 @@ impl Refusal {
 }
 
 impl fmt::Display for Refusal {
+    ghost output = { λ refusal. Some (refusal_text refusal) };
+
     fn fmt<W: fmt::Write>(&self, f: &mut fmt::Formatter<W>) -> fmt::Result {
         let place = self.place();
         match self {
@@ -106,6 +109,8 @@ pub enum Verdict {
 
 // As listings name it.
 impl fmt::Display for Verdict {
+    ghost output = { λ verdict. Some (verdict_text verdict) };
+
     fn fmt<W: fmt::Write>(&self, f: &mut fmt::Formatter<W>) -> fmt::Result {
         match self {
             Verdict::Outside => f.write_str("out"),

@@ -4,3 +4,4 @@ pub mod Meaning
 pub mod Messages
 pub mod Pairs
 pub mod Splits
+pub mod Texts

@@ -1,6 +1,7 @@
 // Why no message is read.
-ghost use Rattle.std.specs.Prelude.{◌≡◌};
+ghost use Rattle.std.specs.Prelude.{◌≡◌, Some};
 ghost use Rattle.reply.specs.Answers.{read_fault_number, read_fault_place};
+ghost use Rattle.reply.specs.Texts.{read_fault_text};
 
 use std::error::Error;
 use std::fmt;
@@ -36,6 +37,8 @@ impl ReadFault {
 }
 
 impl fmt::Display for ReadFault {
+    ghost output = { λ fault. Some (read_fault_text fault) };
+
     fn fmt<W: fmt::Write>(&self, f: &mut fmt::Formatter<W>) -> fmt::Result {
         match self {
             ReadFault::NothingWhole => f.write_str("no whole frame is heard"),

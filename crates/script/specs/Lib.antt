@@ -5,3 +5,4 @@ pub mod Calls
 pub mod Lending
 pub mod Bases
 pub mod Lines
+pub mod Texts

@@ -1,7 +1,8 @@
 // Feeding a monitor, and asking for its counts.
-ghost use Rattle.std.specs.Prelude.{◌≡◌, ◌+◌, ◌^◌, ◌<◌, ◌≤◌, [], ◌++◌, map, length, IfOk, vec_len};
+ghost use Rattle.std.specs.Prelude.{◌≡◌, ◌+◌, ◌^◌, ◌<◌, ◌≤◌, [], ◌++◌, map, length, IfOk, vec_len, Some};
 ghost use Rattle.monitor.specs.Following.{counts_of, reached, row_at, Placed, line_length, Brings, passed, Fed, Follows};
 ghost use Rattle.monitor.specs.declared.state.calls.FeedFault.TheVariants.{NoMemory};
+ghost use Rattle.monitor.specs.Texts.{feed_fault_text};
 
 use super::Monitor;
 use crate::row::{Counts, Row};
@@ -19,6 +20,8 @@ pub enum FeedFault {
 }
 
 impl fmt::Display for FeedFault {
+    ghost output = { λ fault. Some (feed_fault_text fault) };
+
     fn fmt<W: fmt::Write>(&self, f: &mut fmt::Formatter<W>) -> fmt::Result {
         match self {
             FeedFault::LineTooLong => f.write_str("the line has too many bytes to count"),
