@@ -42,7 +42,8 @@ macro_rules! at_each {
 impl AnyStore {
     // The words of a journal, bare or under a saver; of no other store.
     pub fn words(&self) -> Option<&[u32]>
-        ensures { option_map (λ ws. ws.now) result ≡ any_words self.now }
+        ensures value { option_map (λ ws. ws.now) result ≡ any_words self.now }
+        ensures memory { ⟦<Self as Store>⟧.memory self.now ≡ any_words self.now }
     {
         match self {
             AnyStore::Words(journal) => Some(journal.words()),
@@ -112,6 +113,7 @@ impl Store for AnyStore {
         ensures mark { any_usable self.new ≡ any_usable self.old }
         ensures kind { any_kind self.new ≡ any_kind self.old }
         ensures words { any_words self.new ≡ any_words_put key value self.old }
+        ensures memory { ⟦<Self as Store>⟧.memory_put key value self.old ≡ any_words_put key value self.old }
         ensures spared { is_saved self.old ≡ true → value_under key (any_settings self.old) ≡ Some value → self.new ≡ self.old }
     {
         at_each!(self, store => store.put(key, value))
@@ -123,6 +125,7 @@ impl Store for AnyStore {
         ensures mark { any_usable self.new ≡ any_usable self.old }
         ensures kind { any_kind self.new ≡ any_kind self.old }
         ensures words { any_words self.new ≡ any_words_removed key self.old }
+        ensures memory { ⟦<Self as Store>⟧.memory_removed key self.old ≡ any_words_removed key self.old }
     {
         at_each!(self, store => store.remove(key))
     }
@@ -133,6 +136,7 @@ impl Store for AnyStore {
         ensures mark { any_usable self.new ≡ any_usable self.old }
         ensures kind { any_kind self.new ≡ any_kind self.old }
         ensures words { any_words self.new ≡ any_words_cleared self.old }
+        ensures memory { ⟦<Self as Store>⟧.memory_cleared self.old ≡ any_words_cleared self.old }
     {
         at_each!(self, store => store.clear())
     }
