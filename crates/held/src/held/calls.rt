@@ -60,7 +60,8 @@ impl Held {
     fn write_behind(&mut self, bytes: &[u8])
         requires room { self.old.end + length bytes.now ≤ 1560 }
         requires few { length (bytes_held self.old) + length bytes.now ≤ 780 }
-        ensures { bytes_held self.new ≡ bytes_held self.old ++ bytes.now }
+        ensures after { bytes_held self.new ≡ bytes_held self.old ++ bytes.now }
+        ensures stays { self.new.start ≡ self.old.start }
     {
         let end = self.end;
         let next = end + bytes.len();
@@ -73,6 +74,7 @@ impl Held {
     pub fn append(&mut self, piece: &[u8]) -> usize
         ensures count { result ≡ min (length piece.now) (780 - length (bytes_held self.old)) }
         ensures after { bytes_held self.new ≡ bytes_held self.old ++ take result piece.now }
+        ensures stays { self.old.end + result ≤ 1560 → self.new.start ≡ self.old.start }
     {
         let room = MOST - self.count();
         let count = piece.len().min(room);
@@ -81,10 +83,11 @@ impl Held {
         count
     }
 
-    // Drops so many bytes from the front, or all where there are fewer.
+    // Drops so many bytes from the front, or all where there are fewer. No byte is moved.
     #[tactic(auto, using(crate::proofs::Shift::skip_some))]
     pub fn skip(&mut self, count: usize)
-        ensures { bytes_held self.new ≡ drop count (bytes_held self.old) }
+        ensures after { bytes_held self.new ≡ drop count (bytes_held self.old) }
+        ensures stays { self.new.bytes ≡ self.old.bytes }
     {
         let held = self.count();
         if count < held {

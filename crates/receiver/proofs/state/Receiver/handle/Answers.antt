@@ -12,7 +12,7 @@ pub returns-then-not-is_configuration-clause-handling : goal.returns-then-not-is
 returns-then-not-is_configuration-clause-handling g c =
     let before = c.args.self.now in
     outside_handled (items_of before) (g.R.Rule.finding before.rule) (state_of g.B.Store.usable g.B.Layer.settings g.F.Store.usable g.F.Layer.settings before) c.args.frame
-    (bytes_held c.skip.new.self) c.args.out.now c.told.result c.end.result (c.is_configuration.result, c.is_configuration.ensures, c.if-not-is_configuration.true) c.told.ensures c.skip.ensures c.end.ensures
+    (bytes_held c.skip.new.self) c.args.out.now c.told.result c.end.result (c.is_configuration.result, c.is_configuration.ensures, c.if-not-is_configuration.true) c.told.ensures c.skip.ensures.after c.end.ensures
 
 pub returns-clause-handling : goal.returns-clause-handling
 returns-clause-handling g c =
@@ -27,7 +27,7 @@ returns-clause-handling g c =
     (state_of g.B.Store.usable g.B.Layer.settings g.F.Store.usable g.F.Layer.settings concluded) (bytes_held c.skip-2.new.self) c.args.out.now
     c.judge_held-judged.new.out c.conclude-telling.new.out c.judge_held-judged.result c.conclude-telling.result c.end-2.result (eqb-true c.args.frame.class configuration_class (sym c.is_configuration.ensures ∙ c.if-not-is_configuration.false))
     cancelling.kept.items (ap g.R.Rule.finding cancelling.kept.rule) cancelling.after c.judge_held-judged.ensures concluding.value concluding.out concluding.after
-    c.skip-2.ensures c.end-2.ensures
+    c.skip-2.ensures.after c.end-2.ensures
 
 pub returns-then-not-is_configuration-clause-stores : goal.returns-then-not-is_configuration-clause-stores
 returns-then-not-is_configuration-clause-stores g c =
