@@ -85,7 +85,7 @@ module _ (cat : Catalogue) (rule : Finding) (room : ℕ) where
   unfolding step served asked
   any_state s s₁ count is e = e ∙ same_state s count s.shut (ltb count 790) ∙ ap (λ b. (asked s room s.shut b).state) (as_short count is)
 
-  any_event : (s : State) (count : ℕ) (out : List ℕ) (r : Result Answered CallFault) → count ≡ min room 790 → answer_event count out r ≡ (step cat rule s (answer_into count)).event
+  pub any_event : (s : State) (count : ℕ) (out : List ℕ) (r : Result Answered CallFault) → count ≡ min room 790 → answer_event count out r ≡ (step cat rule s (answer_into count)).event
       → answer_event room out r ≡ (step cat rule s (answer_into room)).event
   unfolding step served asked
   any_event s count out r is e =
