@@ -35,9 +35,10 @@ pub fn apply_changes<S: Store>(catalogue: &Catalogue, changes: &ItemChanges, sto
     }
 }
 
-// A store that the battery keeps: cleared once where it was lost, else not written to.
+// A store that the battery keeps: cleared once where it was lost, else not written to. What is said of its memory is said of the store's own.
 pub fn after_battery<S: Store>(battery: Battery, store: &mut S)
     ensures after { ⟦<S as StoreMeaning>⟧.store store.new ≡ after_battery battery (⟦<S as StoreMeaning>⟧.store store.old) }
+    ensures memory { ⟦<S as StoreMeaning>⟧.memory ≡ record { words = S.Store.memory; put = S.Store.memory_put; removed = S.Store.memory_removed; cleared = S.Store.memory_cleared } }
     ensures wrote { WroteByBattery ⟦<S as StoreMeaning>⟧.memory battery store.old store.new }
 {
     match battery {
