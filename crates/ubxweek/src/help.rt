@@ -3,8 +3,9 @@ pub const HELP: &str = "ubxweek: a configuration's way from the office to the ro
 
 usage: ubxweek
 
-Reads nothing, and tells three weeks. In each the office sends a transaction for
-RAM and Flash in three frames, the radio passes it in scraps with static around
+Reads nothing, and tells four weeks. In the first three the office sends a
+transaction for RAM and Flash in three frames, in the fourth two sets for RAM,
+the second for BBR too. The radio passes each frame in scraps with static around
 it, and a receiver on the rock hears it and answers:
 
     the first week's change is applied, read back by the logger and filed; a dip
@@ -12,6 +13,8 @@ it, and a receiver on the rock hears it and answers:
     with the one in force
     the second week's change has an unfit rate, and neither layer changes
     the third week's change is abandoned
+    in the fourth week BBR gets a rate without the port that it needs, so that
+    the dip leaves the defaults in force, and the comparison finds it
 
 Bytes, keys and words are hexadecimal, other numbers decimal; a bar stands
 between the scraps that the radio brings.

@@ -3,7 +3,7 @@
 //
 // board.rt  the board on the rock, and the radio before it
 // story.rt  what is told of each day
-// weeks.rt  the three weeks
+// weeks.rt  the four weeks
 // text.rt   bytes, words and settings as text
 #![tactic(auto)]
 

@@ -1,14 +1,18 @@
-// The three weeks: a change that is applied, one that is unfit, and one that is abandoned.
+// The four weeks: a change that is applied, one that is unfit, one that is abandoned, and one that does not outlast a restart.
 use crate::board::{PORT, RATE};
 use crate::story::Story;
 use frame::MAX_FRAME;
-use host::{Begun, SetTransaction};
+use host::{Begun, SetTransaction, write_set};
 use layer::Setting;
 use std::alloc::Global;
 use std::io::Write;
 
 // RAM and Flash.
 const LAYERS: u8 = 5;
+
+const RAM: u8 = 1;
+
+const RAM_AND_BBR: u8 = 3;
 
 // How a transaction ends.
 #[derive(Clone, Copy, PartialEq, Eq)]
@@ -17,7 +21,7 @@ enum End {
     Abandon,
 }
 
-// The three weeks, each on a board of its own.
+// The four weeks, each on a board of its own.
 pub fn tell_weeks<W: Write>(heap: Global, out: &mut W) -> anyhow::Result<()> {
     tell_applied(heap, out)?;
     out.writeln("")?;
@@ -35,7 +39,9 @@ pub fn tell_weeks<W: Write>(heap: Global, out: &mut W) -> anyhow::Result<()> {
         "The week in which the change is abandoned\n",
         5,
         End::Abandon,
-    )
+    )?;
+    out.writeln("")?;
+    tell_half_kept(heap, out)
 }
 
 fn tell_applied<W: Write>(heap: Global, out: &mut W) -> anyhow::Result<()> {
@@ -55,6 +61,37 @@ fn tell_ended<W: Write>(
     let mut story = Story::new(heap, out)?;
     story.say(title)?;
     tell_transaction(&mut story, rate, end)
+}
+
+// RAM alone is judged when a frame is answered, so BBR can get a rate without the port that it needs.
+fn tell_half_kept<W: Write>(heap: Global, out: &mut W) -> anyhow::Result<()> {
+    let mut story = Story::new(heap, out)?;
+    story.say("The week in which BBR gets one half of the change\n")?;
+    story.say("Monday: the office sets the port in RAM alone")?;
+    let port = Setting {
+        key: PORT,
+        value: 1,
+    };
+    tell_set(&mut story, RAM, port)?;
+    story.say("Tuesday: the office sets a rate in RAM and BBR")?;
+    let rate = Setting {
+        key: RATE,
+        value: 5,
+    };
+    tell_set(&mut story, RAM_AND_BBR, rate)?;
+    tell_filing(&mut story)
+}
+
+// A set that is no transaction.
+fn tell_set<W: Write>(
+    story: &mut Story<'_, W>,
+    layers: u8,
+    setting: Setting,
+) -> anyhow::Result<()> {
+    let mut buffer = [0u8; MAX_FRAME];
+    let length = write_set(&mut buffer, layers, &[setting])?;
+    story.pass(buffer.get(..length).unwrap_or(&[]))?;
+    story.tell_layers()
 }
 
 // Monday to Wednesday: the office begins a transaction, adds to it, and ends it.
