@@ -66,3 +66,21 @@ fn pieces_of_every_size_give_the_same_listing(rt: HostRuntime) -> Result<(), Fai
     }
     Ok(())
 }
+
+// A contract lets any piece be refused for want of memory; these are taken.
+#[test]
+fn pieces_of_no_byte_and_of_many_are_taken(rt: HostRuntime) -> Result<(), Fail> {
+    let heap = rt.alloc();
+    let mut monitor = Monitor::new(heap);
+    for length in [0, 1, 0, 32 * 1024, 0] {
+        let piece = vec![in heap; 0xb5u8; length]?;
+        assert_eq!(rt; monitor.feed(heap, piece.as_slice())?.len(), 0);
+    }
+    let counts = Counts {
+        frames: 0,
+        noise: 32 * 1024,
+        held: 1,
+    };
+    assert_eq!(rt; monitor.counts(), counts);
+    Ok(())
+}

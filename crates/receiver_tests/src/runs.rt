@@ -88,6 +88,16 @@ fn a_log_has_an_event_for_each_call(rt: HostRuntime) -> Result<(), Fail> {
     Ok(())
 }
 
+// A contract lets any list of calls be refused for want of memory; a long one is replayed.
+#[test]
+fn a_long_list_of_calls_is_replayed(rt: HostRuntime) -> Result<(), Fail> {
+    let heap = rt.alloc();
+    let calls = vec![in heap; Call::Look(RAM, ADDRESS); 1001]?;
+    let done = replay(heap, &bench_catalogue(), bench_parts(), calls.as_slice())?;
+    assert_eq!(rt; done.log.len(), 1001);
+    Ok(())
+}
+
 // A receiver without BBR is shut, and refuses every call.
 #[test]
 fn a_shut_receiver_refuses_every_call(rt: HostRuntime) -> Result<(), Fail> {
