@@ -13,8 +13,8 @@ or_fault fault (Some n) = Ok n
 or_fault fault None = Err fault
 
 -- what is read goes on, and the first fault is told
-abbrev pub reading : {X : Type 0} → Result ℕ LineFault → (ℕ → Result X LineFault) → Result X LineFault
-reading (Ok n) f = f n
+abbrev pub reading : {A X : Type 0} → Result A LineFault → (A → Result X LineFault) → Result X LineFault
+reading (Ok a) f = f a
 reading (Err fault) f = Err fault
 
 abbrev pub key_read : List ℕ → Result ℕ LineFault

@@ -1,8 +1,7 @@
 // A line of a script, read into a command.
-ghost use Rattle.std.specs.Prelude.{◌≡◌, IfOk};
-ghost use Rattle.script.specs.declared.command.Choice.{Choice};
-ghost use Rattle.script.specs.declared.command.Part.TheVariants.{Store};
-ghost use Rattle.script.specs.Lines.{ReadsBytes, ReadsTake, ReadsAnswer, ReadsLook, ReadsRestart, ReadsAlone, ReadsCommand, ReadsLine, ReadsPlace, ReadsPart, ReadsPut, ReadsRemove, ReadsClear, ReadsShown, ReadsGiven, ReadsBuffer};
+ghost use Rattle.std.specs.Prelude.{◌≡◌};
+ghost use Rattle.script.specs.declared.command.Medium.TheVariants.{Words as Journal};
+ghost use Rattle.script.specs.Lines.{IsMade, ReadsBytes, ReadsTake, ReadsAnswer, ReadsLook, ReadsRestart, ReadsAlone, ReadsCommand, ReadsLine, ReadsWords, ReadsPlace, ReadsPart, ReadsEntry, ReadsNeed, ReadsStore, ReadsMedium, ReadsPut, ReadsRemove, ReadsClear, ReadsShown, ReadsGiven, ReadsBuffer};
 
 use crate::command::{Choice, Command, Medium, OwnCall, Part, Place};
 use crate::fault::LineFault;
@@ -45,7 +44,13 @@ pub fn read_line(heap: Global, line: &str) -> Result<Option<Command>, LineFault>
     ensures { ReadsLine line.now result }
 {
     let words: Vec<&str> = line.split_whitespace().collect(heap)?;
-    let [name, rest @ ..] = words.as_slice() else {
+    read_words(heap, words.as_slice())
+}
+
+fn read_words(heap: Global, words: &[&str]) -> Result<Option<Command>, LineFault>
+    ensures { ReadsWords words.now result }
+{
+    let [name, rest @ ..] = words else {
         return Ok(None);
     };
     if name.starts_with('#') {
@@ -64,9 +69,9 @@ fn read_command(heap: Global, name: &str, words: &[&str]) -> Result<Command, Lin
         "answer" => answering(words).map(Command::Call),
         "look" => looking(words).map(Command::Call),
         "restart" => restarting(words).map(Command::Call),
-        "inspect" => Ok(Command::Inspect(buffer_in(heap, words, INSPECT)?)),
+        "inspect" => buffer_in(heap, words, INSPECT).map(Command::Inspect),
         "words" => showing(words).map(Command::Words),
-        "read" => Ok(Command::Read(bytes_in(heap, words)?)),
+        "read" => bytes_in(heap, words).map(Command::Read),
         "hostset" | "hostdel" | "hostget" | "hostbegin" | "hostadd" | "hostapply" | "hostabandon" =>
             read_host(heap, name, words).map(Command::Host),
         _ => read_part(heap, name, words).map(Command::SetUp),
@@ -97,14 +102,18 @@ fn read_part(heap: Global, name: &str, words: &[&str]) -> Result<Part, LineFault
     }
 }
 
-fn entry_in(words: &[&str]) -> Result<Part, LineFault> {
+fn entry_in(words: &[&str]) -> Result<Part, LineFault>
+    ensures { ReadsEntry words.now result }
+{
     let [key, kind, default, low, high] = words else {
         return Err(LineFault::Form(ENTRY));
     };
     Ok(Part::Entry(read_entry(key, kind, default, low, high)?))
 }
 
-fn need_in(words: &[&str]) -> Result<Part, LineFault> {
+fn need_in(words: &[&str]) -> Result<Part, LineFault>
+    ensures { ReadsNeed words.now result }
+{
     let [first, second] = words else {
         return Err(LineFault::Form(NEED));
     };
@@ -112,7 +121,7 @@ fn need_in(words: &[&str]) -> Result<Part, LineFault> {
 }
 
 fn store_in(heap: Global, place: Place, words: &[&str]) -> Result<Part, LineFault>
-    ensures { IfOk result (λ c. (w : Choice) × (c ≡ Store place w)) }
+    ensures { ReadsStore place words.now result }
 {
     let choice = match words {
         ["saver", under @ ..] => Choice::Saved(medium_in(heap, under)?),
@@ -121,13 +130,21 @@ fn store_in(heap: Global, place: Place, words: &[&str]) -> Result<Part, LineFaul
     Ok(Part::Store(place, choice))
 }
 
-fn medium_in(heap: Global, words: &[&str]) -> Result<Medium, LineFault> {
+fn medium_in(heap: Global, words: &[&str]) -> Result<Medium, LineFault>
+    ensures { ReadsMedium words.now result }
+{
     match words {
         ["slots"] => Ok(Medium::Slots),
         ["absent"] => Ok(Medium::Absent),
-        ["journal", buffer @ ..] => Ok(Medium::Words(buffer_in(heap, buffer, STORE)?)),
+        ["journal", buffer @ ..] => journal_in(heap, buffer),
         _ => Err(LineFault::Form(STORE)),
     }
+}
+
+fn journal_in(heap: Global, words: &[&str]) -> Result<Medium, LineFault>
+    ensures { IsMade Journal (ReadsBuffer STORE.now words.now) result }
+{
+    buffer_in(heap, words, STORE).map(Medium::Words)
 }
 
 fn put_in(words: &[&str]) -> Result<Part, LineFault>
@@ -160,7 +177,7 @@ fn clear_in(words: &[&str]) -> Result<Part, LineFault>
 fn taking(heap: Global, words: &[&str]) -> Result<OwnCall, LineFault>
     ensures { ReadsTake words.now result }
 {
-    Ok(OwnCall::Take(bytes_in(heap, words)?))
+    bytes_in(heap, words).map(OwnCall::Take)
 }
 
 fn answering(words: &[&str]) -> Result<OwnCall, LineFault>
@@ -202,7 +219,7 @@ fn showing(words: &[&str]) -> Result<Place, LineFault>
 
 // A buffer of as many words as the first number says: those that are given, as far as there is room, and blanks behind them.
 fn buffer_in(heap: Global, words: &[&str], form: &'static str) -> Result<Vec<u32>, LineFault>
-    ensures { ReadsBuffer words.now result }
+    ensures { ReadsBuffer form.now words.now result }
 {
     let [count, given @ ..] = words else {
         return Err(LineFault::Form(form));
@@ -239,7 +256,7 @@ fn bytes_in(heap: Global, words: &[&str]) -> Result<Vec<u8>, LineFault>
 }
 
 fn place_in(word: &str, form: &'static str) -> Result<Place, LineFault>
-    ensures { ReadsPlace form.now word.now result }
+    ensures { ReadsPlace form.now word.now (λ p. Ok p) result }
 {
     match word {
         "bbr" => Ok(Place::Bbr),

@@ -1,5 +1,7 @@
-use Rattle.std.proofs.Common.{refl, rules}
+use Rattle.script.specs.declared.command.OwnCall.TheVariants.{Take}
+use Rattle.script.specs.Lines.{ReadsBytes}
+use Rattle.script.proofs.Lines.{made}
 use Rattle.script.proofs.reading.taking.Goals as goal
 
 pub returns : goal.returns
-returns c = (c.in_ok-bytes_in.field-0, refl, search rules)
+returns c = made Take (ReadsBytes c.args.words.now) c.bytes_in.result c.map.result c.bytes_in.ensures c.map.ensures.cases
