@@ -4,5 +4,8 @@ pub mod Fields
 pub mod Calls
 pub mod Lending
 pub mod Bases
+pub mod Words
+pub mod Parts
+pub mod Hosts
 pub mod Lines
 pub mod Texts

@@ -1,4 +1,8 @@
 // The commands of the host end: requests that are to be written, alone or in a transaction.
+ghost use Rattle.std.specs.Prelude.{◌≡◌};
+ghost use Rattle.script.specs.Words.{ReadsAlone, ReadsKeys};
+ghost use Rattle.script.specs.Hosts.{ReadsHost, ReadsAsked, ReadsGet, ReadsBegin, ReadsAdd, ReadsSettings};
+
 use crate::fault::LineFault;
 use crate::field::{count_in, key_in, layer_in, position_in, value_in};
 use layer::Setting;
@@ -46,11 +50,9 @@ pub enum HostCommand {
     Abandon,
 }
 
-pub(crate) fn read_host(
-    heap: Global,
-    name: &str,
-    words: &[&str],
-) -> Result<HostCommand, LineFault> {
+pub(crate) fn read_host(heap: Global, name: &str, words: &[&str]) -> Result<HostCommand, LineFault>
+    ensures { ReadsHost name.now words.now result }
+{
     match name {
         "hostset" => set_in(heap, words, SET).map(HostCommand::Set),
         "hostdel" => delete_in(heap, words, DELETE).map(HostCommand::Delete),
@@ -63,7 +65,9 @@ pub(crate) fn read_host(
     }
 }
 
-fn set_in(heap: Global, words: &[&str], form: &'static str) -> Result<Asked<Setting>, LineFault> {
+fn set_in(heap: Global, words: &[&str], form: &'static str) -> Result<Asked<Setting>, LineFault>
+    ensures { ReadsAsked (ReadsSettings form.now) form.now words.now result }
+{
     let [room, layers, pairs @ ..] = words else {
         return Err(LineFault::Form(form));
     };
@@ -74,7 +78,9 @@ fn set_in(heap: Global, words: &[&str], form: &'static str) -> Result<Asked<Sett
     })
 }
 
-fn delete_in(heap: Global, words: &[&str], form: &'static str) -> Result<Asked<u32>, LineFault> {
+fn delete_in(heap: Global, words: &[&str], form: &'static str) -> Result<Asked<u32>, LineFault>
+    ensures { ReadsAsked ReadsKeys form.now words.now result }
+{
     let [room, layers, numbers @ ..] = words else {
         return Err(LineFault::Form(form));
     };
@@ -85,7 +91,9 @@ fn delete_in(heap: Global, words: &[&str], form: &'static str) -> Result<Asked<u
     })
 }
 
-fn get_in(heap: Global, words: &[&str]) -> Result<HostCommand, LineFault> {
+fn get_in(heap: Global, words: &[&str]) -> Result<HostCommand, LineFault>
+    ensures { ReadsGet words.now result }
+{
     let [room, layer, position, numbers @ ..] = words else {
         return Err(LineFault::Form(GET));
     };
@@ -97,7 +105,9 @@ fn get_in(heap: Global, words: &[&str]) -> Result<HostCommand, LineFault> {
     })
 }
 
-fn begin_in(heap: Global, words: &[&str]) -> Result<HostCommand, LineFault> {
+fn begin_in(heap: Global, words: &[&str]) -> Result<HostCommand, LineFault>
+    ensures { ReadsBegin words.now result }
+{
     match words {
         ["set", rest @ ..] => set_in(heap, rest, BEGIN).map(HostCommand::BeginSets),
         ["del", rest @ ..] => delete_in(heap, rest, BEGIN).map(HostCommand::BeginDeletes),
@@ -105,7 +115,9 @@ fn begin_in(heap: Global, words: &[&str]) -> Result<HostCommand, LineFault> {
     }
 }
 
-fn add_in(heap: Global, words: &[&str]) -> Result<HostCommand, LineFault> {
+fn add_in(heap: Global, words: &[&str]) -> Result<HostCommand, LineFault>
+    ensures { ReadsAdd words.now result }
+{
     let [room, entries @ ..] = words else {
         return Err(LineFault::Form(ADD));
     };
@@ -116,18 +128,18 @@ fn add_in(heap: Global, words: &[&str]) -> Result<HostCommand, LineFault> {
     })
 }
 
-fn end_in(words: &[&str], command: HostCommand) -> Result<HostCommand, LineFault> {
+fn end_in(words: &[&str], command: HostCommand) -> Result<HostCommand, LineFault>
+    ensures { ReadsAlone END.now command words.now result }
+{
     match words {
         [] => Ok(command),
         _ => Err(LineFault::Form(END)),
     }
 }
 
-fn settings_in(
-    heap: Global,
-    words: &[&str],
-    form: &'static str,
-) -> Result<Vec<Setting>, LineFault> {
+fn settings_in(heap: Global, words: &[&str], form: &'static str) -> Result<Vec<Setting>, LineFault>
+    ensures { ReadsSettings form.now words.now result }
+{
     let mut settings = Vec::new(heap);
     for pair in words.chunks(2) {
         let [key, value] = pair else {
@@ -141,7 +153,9 @@ fn settings_in(
     Ok(settings)
 }
 
-fn numbers_in(heap: Global, words: &[&str]) -> Result<Vec<u32>, LineFault> {
+fn numbers_in(heap: Global, words: &[&str]) -> Result<Vec<u32>, LineFault>
+    ensures { ReadsKeys words.now result }
+{
     let mut numbers = Vec::new(heap);
     for word in words {
         numbers.push(key_in(word)?)?;

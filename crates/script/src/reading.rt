@@ -1,7 +1,9 @@
 // A line of a script, read into a command.
 ghost use Rattle.std.specs.Prelude.{◌≡◌};
 ghost use Rattle.script.specs.declared.command.Medium.TheVariants.{Words as Journal};
-ghost use Rattle.script.specs.Lines.{IsMade, ReadsBytes, ReadsTake, ReadsAnswer, ReadsLook, ReadsRestart, ReadsAlone, ReadsCommand, ReadsLine, ReadsWords, ReadsPlace, ReadsPart, ReadsEntry, ReadsNeed, ReadsStore, ReadsMedium, ReadsPut, ReadsRemove, ReadsClear, ReadsShown, ReadsGiven, ReadsBuffer};
+ghost use Rattle.script.specs.Words.{IsMade, ReadsAlone, ReadsBytes, ReadsGiven};
+ghost use Rattle.script.specs.Parts.{ReadsPlace, ReadsPart, ReadsEntry, ReadsNeed, ReadsStore, ReadsMedium, ReadsPut, ReadsRemove, ReadsClear, ReadsBuffer};
+ghost use Rattle.script.specs.Lines.{ReadsTake, ReadsAnswer, ReadsLook, ReadsRestart, ReadsShown, ReadsCommand, ReadsLine, ReadsWords};
 
 use crate::command::{Choice, Command, Medium, OwnCall, Part, Place};
 use crate::fault::LineFault;
@@ -79,7 +81,7 @@ fn read_command(heap: Global, name: &str, words: &[&str]) -> Result<Command, Lin
 }
 
 fn alone(words: &[&str], command: Command) -> Result<Command, LineFault>
-    ensures { ReadsAlone command words.now result }
+    ensures { ReadsAlone ALONE.now command words.now result }
 {
     match words {
         [] => Ok(command),

@@ -1,7 +1,7 @@
 use Rattle.script.specs.declared.command.Medium.TheVariants.{Words as Journal}
 use Rattle.script.specs.declared.reading.TheConstants.{STORE}
-use Rattle.script.specs.Lines.{ReadsBuffer}
-use Rattle.script.proofs.Lines.{made}
+use Rattle.script.specs.Parts.{ReadsBuffer}
+use Rattle.script.proofs.Words.{made}
 use Rattle.script.proofs.reading.journal_in.Goals as goal
 
 pub returns : goal.returns

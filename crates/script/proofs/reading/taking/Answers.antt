@@ -1,6 +1,6 @@
 use Rattle.script.specs.declared.command.OwnCall.TheVariants.{Take}
-use Rattle.script.specs.Lines.{ReadsBytes}
-use Rattle.script.proofs.Lines.{made}
+use Rattle.script.specs.Words.{ReadsBytes}
+use Rattle.script.proofs.Words.{made}
 use Rattle.script.proofs.reading.taking.Goals as goal
 
 pub returns : goal.returns

@@ -1,6 +1,6 @@
 use Rattle.std.proofs.Common.{◌≡◌, map, take, Some, vec_items}
-use Rattle.script.specs.Lines.{word_of}
+use Rattle.script.specs.Words.{word_in}
 use Rattle.script.proofs.reading.words_in.Given as goal
 
 abbrev pub invariant-loop-word : goal.invariant-loop-word
-invariant-loop-word l = map Some (vec_items l.read) ≡ map word_of (take l.word-index l.words)
+invariant-loop-word l = map Some (vec_items l.read) ≡ map (λ w. word_in w.now) (take l.word-index l.words)
