@@ -1,7 +1,10 @@
 // The first message of the input.
-ghost use Rattle.std.specs.Prelude.{◌≡◌};
+ghost use Rattle.std.specs.Prelude.{◌≡◌, Option};
+ghost use Rattle.std.specs.Iterator.{YieldsFirst};
+ghost use Rattle.layer.specs.declared.setting.Setting.{Setting};
+ghost use Rattle.reply.specs.declared.pairs.Pairs.{Pairs};
 ghost use Rattle.reply.specs.Messages.{read_message};
-ghost use Rattle.reply.specs.Meaning.{FirstHeard, read_of};
+ghost use Rattle.reply.specs.Meaning.{FirstHeard, read_of, pairs_left};
 ghost use Rattle.reply.specs.Back.{ReadsBack};
 
 use crate::fault::ReadFault;
@@ -37,11 +40,13 @@ fn first_heard(bytes: &[u8]) -> Option<Heard<'_>>
     })
 }
 
-// What the first heard frame of the input says. Noise before it is skipped, and an undecided place ends the search.
+// What the first heard frame of the input says. Noise before it is skipped, and an undecided place ends the search. A loop over its pairs is told
+// of each step that the next pair came.
 #[tactic(auto, using(crate::proofs::Back::reads_back))]
 pub fn read(bytes: &[u8]) -> Result<Reading<'_>, ReadFault>
     ensures value { read_of result ≡ read_message bytes.now }
     ensures back { ReadsBack bytes.now (read_of result) }
+    ensures steps { (before : Pairs) (pair : Option Setting) (after : Pairs) → ⟦<crate::pairs::Pairs<'static> as Iterator>⟧.next_gives before pair after → YieldsFirst pairs_left before pair after }
 {
     let Some(heard) = first_heard(bytes) else {
         return Err(ReadFault::NothingWhole);
