@@ -1,6 +1,6 @@
 #!/usr/bin/env bash
 # Shows that misuse of the host's transactions does not compile. Each source of crates/host/misuse is tried as a program, in a folder of its own with
-# copies of the crates that it needs: it must be refused with the error that its line `// error: ` names, at a line of its own; one that names none
+# copies of the crates that it needs: it must be refused with the error that its line `// error: ` names, at a line of that source; one that names none
 # must be accepted and run.
 set -euo pipefail
 cd "$(dirname "$0")/.."

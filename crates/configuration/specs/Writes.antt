@@ -1,4 +1,5 @@
--- Writing to a store for one item after the other: each change is one write, and there is no other.
+-- Writing to a store for one item after the other: the words after each change are those that one write leaves, and without a change the store
+-- is the same. The stores in between are known by their words alone.
 use Rattle.std.specs.Prelude.{◌≡◌, ℕ, Bool, true, false, List, [], ◌∷◌, Some, None, Option}
 use Rattle.reference.specs.Requests.{Catalogue, Changes}
 use Rattle.reference.specs.declared.call.Battery.{Battery}
@@ -28,7 +29,7 @@ module _ {S : Type 0} (m : Memory S) where
   WroteIf true cat d before after = Wrote cat d before after
   WroteIf false cat d before after = after ≡ before
 
-  -- a store that the battery kept is the same, and one that it lost was cleared once
+  -- a store that the battery kept is the same, and one that it lost has the words that one clearing leaves
   abbrev pub WroteByBattery : Battery → S → S → Type 0
   WroteByBattery Kept before after = after ≡ before
   WroteByBattery Lost before after = m.words after ≡ m.cleared before

@@ -35,7 +35,8 @@ pub fn apply_changes<S: Store>(catalogue: &Catalogue, changes: &ItemChanges, sto
     }
 }
 
-// A store that the battery keeps: cleared once where it was lost, else not written to. What is said of its memory is said of the store's own.
+// A store that a battery keeps: cleared once where the battery was lost, else not written to. Clause `memory`: the memory that the contracts
+// name is made of the store's own members.
 pub fn after_battery<S: Store>(battery: Battery, store: &mut S)
     ensures after { ⟦<S as StoreMeaning>⟧.store store.new ≡ after_battery battery (⟦<S as StoreMeaning>⟧.store store.old) }
     ensures memory { ⟦<S as StoreMeaning>⟧.memory ≡ record { words = S.Store.memory; put = S.Store.memory_put; removed = S.Store.memory_removed; cleared = S.Store.memory_cleared } }

@@ -1,4 +1,5 @@
-// One write to a store, as the whole store that it leaves, and what its memory holds after. A refusal leaves the store as it was, so the answer is not looked at.
+// One write to a store: the mark and settings that it leaves, and the words of its memory after. A refusal leaves mark and settings, so the
+// answer is not looked at.
 ghost use Rattle.std.specs.Prelude.{◌≡◌};
 ghost use Rattle.reference.specs.Stores.{put, removed, cleared};
 

@@ -1,5 +1,5 @@
 // The receiver for C: a static library with a few functions over numbers and slices. Behind them stands one receiver, with a slot table for BBR
-// and a journal for Flash, whose words C gives at making.
+// and a journal under a saver for Flash, whose words C gives at making.
 //
 // numbers.rt  what crosses to C: structs of numbers
 // board.rt    a receiver, called with numbers

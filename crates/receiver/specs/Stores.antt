@@ -1,4 +1,4 @@
--- Which writes BBR and Flash get: one for each item that changes, in a layer that is chosen; and else none.
+-- Which writes BBR and Flash get: one for each item that the changes name, in a layer that is chosen; and else none.
 use Rattle.std.specs.Prelude.{◌≡◌, ℕ, cond, Some, None, Ok, Err, Option, Result, ◌==◌}
 use Rattle.frame.specs.Frames.{Message}
 use Rattle.layer.specs.declared.stack.Stack.{Stack}
@@ -22,7 +22,7 @@ module _ {B F : Type 0} (bbr : Memory B) (flash : Memory F) where
   abbrev pub Layered : Type 0
   Layered = Stack (Stack B F) Defaults
 
-  -- a plan that applies changes writes each to the chosen stores; one that queues or replies writes to none
+  -- a plan that applies changes writes each change to the chosen stores; one that queues or replies writes to none
   abbrev pub WrotePlan : Catalogue → Plan → Layered → Layered → Type 0
   WrotePlan cat (apply l d) before after = WroteIf bbr l.bbr cat d before.upper.upper after.upper.upper × WroteIf flash l.flash cat d before.upper.lower after.upper.lower
   WrotePlan cat (queue t) before after = after ≡ before

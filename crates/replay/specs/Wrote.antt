@@ -10,7 +10,7 @@ use Rattle.configuration.specs.Writes.{Memory, WroteByBattery}
 use Rattle.receiver.specs.Stores.{judgement_on, Layered, WroteFor}
 
 module _ {B F : Type 0} (bbr : Memory B) (flash : Memory F) where
-  -- By what happened in a state: an answering writes what its frame is judged to, a restart what its battery asks; nothing else writes.
+  -- By what happened in a state: an answering writes what its first frame is judged to do, a restart what its battery asks; nothing else writes.
   abbrev pub WroteOn : Catalogue → Finding → State → Event → Layered bbr flash → Layered bbr flash → Type 0
   WroteOn cat rule s (took piece n) before after = after ≡ before
   WroteOn cat rule s (nothing_whole noise) before after = WroteFor bbr flash cat (judgement_on cat rule s (finding s.held_bytes).message) before after

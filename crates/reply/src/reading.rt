@@ -40,8 +40,8 @@ fn first_heard(bytes: &[u8]) -> Option<Heard<'_>>
     })
 }
 
-// What the first heard frame of the input says. Noise before it is skipped, and an undecided place ends the search. A loop over its pairs is told
-// of each step that the next pair came.
+// What the first heard frame of the input says. Noise before it is skipped, and an undecided place ends the search. Clause `steps`: each step of a
+// loop over its pairs gives the next one.
 #[tactic(auto, using(crate::proofs::Back::reads_back))]
 pub fn read(bytes: &[u8]) -> Result<Reading<'_>, ReadFault>
     ensures value { read_of result ≡ read_message bytes.now }

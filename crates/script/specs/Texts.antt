@@ -1,4 +1,4 @@
--- What is said of a line that is no command.
+-- What is said of a line that is refused.
 use Rattle.std.specs.Prelude.{ℕ, List, ◌++◌, codes, decimal}
 use Rattle.script.specs.declared.fault.LineFault.{LineFault}
 use Rattle.script.specs.declared.fault.LineFault.TheVariants.{UnknownCommand, Form, NoKey, NoByte, NoWord, NoNumber, NoCount, SetUpAfterMake, CallBeforeMake, NoMemory}

@@ -30,7 +30,7 @@ IsOnly words text = (length words ≡ 1) × (word words 0 ≡ text)
 abbrev pub Begins : Words → List ℕ → Type 0
 Begins words text = (0 < length words) × (word words 0 ≡ text)
 
--- what is read goes on, and its fault is told
+-- with what was read the reading goes on; else its fault is the answer
 abbrev pub ReadsOn : {A X : Type 0} → Result A LineFault → (A → Result X LineFault → Type 0) → Result X LineFault → Type 0
 ReadsOn (Ok a) Reads r = Reads a r
 ReadsOn (Err f) Reads r = r ≡ Err f

@@ -41,7 +41,7 @@ const MOST_WORDS: usize = 1 << 20;
 
 const ALONE: &str = "no word behind new or make";
 
-// The command of a line; none where the line is blank or begins with #.
+// The command of a line; none where the line is blank or its first word begins with #.
 pub fn read_line(heap: Global, line: &str) -> Result<Option<Command>, LineFault>
     ensures { ReadsLine line.now result }
 {

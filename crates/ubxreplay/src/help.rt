@@ -4,14 +4,14 @@ pub const HELP: &str = "ubxreplay: replays a script of calls to configuration re
 usage: ubxreplay [FILE]
 
 Reads a script from FILE, or from standard input, and prints a line for each
-command that answers. Words stand apart by spaces; keys and bytes are
-hexadecimal, as words of a journal are, other numbers decimal. Blank lines, and lines that begin with #,
-are skipped. A line that is no command here prints `error line N: WHAT`, and
-the run goes on.
+command that answers. Words stand apart by spaces; keys, bytes and a journal's
+words are hexadecimal, other numbers decimal. Blank lines, and lines whose
+first word begins with #, are skipped. A line that is no command here prints
+`error line N: WHAT`, and the run goes on.
 
 set-up:
     entry KEY KIND DEFAULT LOW HIGH   one more item of the catalogue
-    need A B                          item A, where it is not 0, needs item B
+    need ITEM ITEM                    the first, unless it is 0, needs the second
     bbr|flash slots|absent            an empty table of slots, or no store
     bbr|flash journal COUNT [WORD...] a journal on COUNT words: these, then blanks
     bbr|flash saver ...               any of the three under a saver
