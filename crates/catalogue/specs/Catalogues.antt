@@ -124,6 +124,10 @@ abbrev pub named : Selector → ℕ → List Entry → List ℕ
 named s place [] = []
 named s place (e ∷ es) = let rest : List ℕ = named s (suc place) es in cond (names s e.key) (place ∷ rest) rest
 
+-- the key of the item at a place
+abbrev pub key_at : List Entry → ℕ → ℕ
+key_at es i = (slice_index_or es i blank).key
+
 -- from a place on
 abbrev pub named_from : Selector → ℕ → List Entry → List ℕ
 named_from s from es = named s from (drop from es)

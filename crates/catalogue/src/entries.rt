@@ -106,8 +106,11 @@ impl Entry {
     fn at_most(&self, a: u64, b: u64) -> bool
         ensures { result ≡ at_most self.now a b }
     {
-        match (self.kind, size_of(self.key)) {
-            (Kind::Signed, Some(size)) => signed_at_most(size, a, b),
+        match self.kind {
+            Kind::Signed => match size_of(self.key) {
+                Some(size) => signed_at_most(size, a, b),
+                None => a <= b,
+            },
             _ => a <= b,
         }
     }
@@ -116,7 +119,8 @@ impl Entry {
     pub fn allows(&self, value: u64) -> bool
         ensures { result ≡ allows self.now value }
     {
-        self.kind == Kind::Bits || (self.at_most(self.low, value) && self.at_most(value, self.high))
+        matches!(self.kind, Kind::Bits)
+            || (self.at_most(self.low, value) && self.at_most(value, self.high))
     }
 
     // Whether the kind suits the size.

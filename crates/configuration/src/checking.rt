@@ -7,7 +7,7 @@ ghost use Rattle.configuration.specs.Checking.{fault_behind};
 use crate::judging::fault_in;
 use crate::meaning::StoreMeaning;
 use crate::straying::stray_key;
-use catalogue::{Catalogue, Entry, check_catalogue};
+use catalogue::{Catalogue, Entry};
 use layer::{Absent, Layer, Store};
 use reference::PartsFault;
 use rule::Rule;
@@ -48,6 +48,5 @@ pub fn check<B: Store, F: Store, R: Rule>(
 ) -> Result<(), PartsFault>
     ensures { result ≡ parts_checked (parts_of entries.now (R.Rule.finding rule.now) (⟦<B as StoreMeaning>⟧.store bbr.now) (⟦<F as StoreMeaning>⟧.store flash.now)) }
 {
-    check_catalogue(entries)?;
-    check_behind(&Catalogue::new(entries), bbr, flash, rule)
+    check_behind(&Catalogue::checked(entries)?, bbr, flash, rule)
 }

@@ -96,7 +96,7 @@ running_at s (x ∷ xs) zero d lt = refl
 running_at s (x ∷ xs) (suc k) d lt = running_at (with_byte s x) xs k d (omega arith)
 
 -- the check bytes of the n bytes from i + 1 on, by the running sums
-window_sums : (bs : List ℕ) (i n : ℕ) (d e : CheckBytes) → i + n < length bs
+pub window_sums : (bs : List ℕ) (i n : ℕ) (d e : CheckBytes) → i + n < length bs
     → sums_between (get_or (running_sums no_sums bs) i d) (get_or (running_sums no_sums bs) (i + n) e) n ≡ check_bytes (take n (drop (i + 1) bs))
 window_sums bs i n d e lt =
     let w : List ℕ = take n (drop (suc i) bs) in

@@ -1,10 +1,11 @@
 -- A payload is built entry by entry: one entry further, and the end.
-use Rattle.std.proofs.Common.{◌≡◌, ℕ, ◌+◌, ◌<◌, ◌≤◌, List, ◌++◌, length, get_or, drop, Some, None, Ok, Err, Option, sym, refl, ap, ◌∙◌, append_assoc, append-nil}
+use Rattle.std.proofs.Common.{◌≡◌, ℕ, ◌+◌, ◌<◌, ◌≤◌, List, [], ◌++◌, length, get_or, drop, Some, None, Ok, Err, Option, sym, refl, ap, ◌∙◌, append_assoc, append-nil, arith}
 use Rattle.std.proofs.lemmas.List.{drop_more, drop_all}
-use Rattle.std.specs.Int.{w32, to_le_bytes}
 use Rattle.std.specs.Option.{option_or}
 use Rattle.item.specs.Values.{bytes_of}
-use Rattle.item.proofs.Values.{key_bytes_le}
+use Rattle.frame.specs.Written.{patched}
+use Rattle.frame.proofs.Written.{patched_front}
+use Rattle.item.proofs.Values.{length_bytes}
 use Rattle.layer.specs.declared.setting.Setting.{Setting}
 use Rattle.reference.specs.Receiver.{pair_bytes, pairs_bytes}
 use Rattle.host.specs.declared.fault.HostFault.{HostFault}
@@ -14,8 +15,10 @@ use Rattle.host.specs.Requests.{numbers_bytes}
 
 -- The bytes of one number
 
-pub number_stands : (n : ℕ) (before : List ℕ) → before ++ to_le_bytes w32 n ≡ before ++ bytes_of 4 n
-number_stands n before = ap (λ (bs : List ℕ). before ++ bs) (key_bytes_le n)
+pub number_stands : (n : ℕ) (before old four : List ℕ) → length old ≡ 4 → four ≡ patched 0 (bytes_of 4 n) old → before ++ four ≡ before ++ bytes_of 4 n
+number_stands n before old four len e =
+    let none : drop (length (bytes_of 4 n)) old ≡ [] = drop_all (length (bytes_of 4 n)) old (omega (arith, length_bytes 4 n)) in
+    ap (λ (bs : List ℕ). before ++ bs) (e ∙ patched_front (bytes_of 4 n) old ∙ ap (λ (bs : List ℕ). bytes_of 4 n ++ bs) none ∙ append-nil (bytes_of 4 n))
 
 -- The first fault of what is left
 

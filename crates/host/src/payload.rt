@@ -11,9 +11,9 @@ use crate::fault::HostFault;
 use crate::stage::Stage;
 use arrayvec::ArrayVec;
 use frame::MAX_PAYLOAD;
-use item::{Selector, is_well_formed, size_of};
+use item::{Selector, Size, is_well_formed, size_of, write_value};
 use layer::Setting;
-use request::{HEAD, MAX_ENTRIES};
+use request::{HEAD, KEY_BYTES, MAX_ENTRIES, PAIR_ROOM, write_pair};
 
 // The version of a get.
 const GET_VERSION: u8 = 0;
@@ -29,8 +29,8 @@ fn begun(head: [u8; HEAD]) -> ArrayVec<u8, MAX_PAYLOAD>
     bytes
 }
 
-// Adds a pair: the key, then as many bytes of the value as its size has.
-#[tactic(auto, using(request::proofs::PairBytes::pair_stands))]
+// Adds a pair.
+#[tactic(auto, using(request::proofs::PairBytes::value_fits, request::proofs::PairBytes::pair_few, request::proofs::PairBytes::pair_taken))]
 fn add_setting(bytes: &mut ArrayVec<u8, MAX_PAYLOAD>, setting: Setting) -> Result<(), HostFault>
     requires room { array_vec_len bytes.old + 12 ≤ 772 }
     ensures answer { result ≡ unless_fault (setting_fault setting) tt }
@@ -45,10 +45,9 @@ fn add_setting(bytes: &mut ArrayVec<u8, MAX_PAYLOAD>, setting: Setting) -> Resul
     if !size.fits(value) {
         return Err(HostFault::UnfitValue);
     }
-    bytes.try_extend_from_slice(&key.to_le_bytes()).unwrap();
-    bytes
-        .try_extend_from_slice(&value.to_le_bytes()[0..size.width()])
-        .unwrap();
+    let mut pair = [0; PAIR_ROOM];
+    let count = write_pair(&mut pair, setting).unwrap();
+    bytes.try_extend_from_slice(&pair[..count]).unwrap();
     Ok(())
 }
 
@@ -65,7 +64,9 @@ fn add_number(bytes: &mut ArrayVec<u8, MAX_PAYLOAD>, number: u32) -> Result<(), 
     {
         return Err(HostFault::IllFormedKey);
     }
-    bytes.try_extend_from_slice(&number.to_le_bytes()).unwrap();
+    let mut four = [0; KEY_BYTES];
+    write_value(&mut four, 0, Size::Four, number as u64).unwrap();
+    bytes.try_extend_from_slice(&four).unwrap();
     Ok(())
 }
 

@@ -1,5 +1,5 @@
 -- Laws of little-endian numbers, over any width.
-use Rattle.std.proofs.Common.{◌≡◌, ℕ, zero, suc, ◌+◌, ◌-◌, ◌*◌, ◌/◌, ◌%◌, ◌^◌, ◌<◌, ◌≤◌, true, leb, List, [], ◌∷◌, ◌++◌, length, get_or, take, drop, replicate, w32, w64, Some, sym, refl, ap, ◌∙◌, subst, arith}
+use Rattle.std.proofs.Common.{◌≡◌, ℕ, zero, suc, ◌+◌, ◌-◌, ◌*◌, ◌/◌, ◌%◌, ◌^◌, ◌<◌, ◌≤◌, true, leb, List, [], ◌∷◌, ◌++◌, length, get_or, take, drop, replicate, w32, w64, Some, sym, refl, ap, ap₂, ◌∙◌, subst, arith}
 use Rattle.std.specs.Int.{from_le_bytes, to_le_bytes, bytes_low_first, byte_at}
 use Rattle.std.proofs.Math.Nat.{div-div-eq-div-mul, pow-suc}
 use Rattle.std.proofs.lemmas.Nat.{pow-add}
@@ -24,15 +24,6 @@ number_small (b ∷ bs) fit =
     let p = pow-add 2 (8 * length bs) 8 in
     rw (e, p) (omega (arith, fit 0))
 
-pub bytes_back : (bs : List ℕ) → ((i : ℕ) → get_or bs i 0 < 256) → bytes_of (length bs) (number bs) ≡ bs
-unfolding number bytes_of
-bytes_back [] fit = refl
-bytes_back (b ∷ bs) fit =
-    let low : (b + 256 * number bs) % 256 ≡ b = omega (arith, fit 0) in
-    let high : (b + 256 * number bs) / 256 ≡ number bs = omega (arith, fit 0) in
-    ap (λ x. x ∷ bytes_of (length bs) ((b + 256 * number bs) / 256)) low ∙ ap (λ m. b ∷ bytes_of (length bs) m) high
-    ∙ ap (λ (xs : List ℕ). b ∷ xs) (bytes_back bs (λ i. fit (suc i)))
-
 -- one byte more at the low end
 pub bytes_more : (k n b : ℕ) → b < 256 → bytes_of (k + 1) (n * 256 + b) ≡ b ∷ bytes_of k n
 unfolding bytes_of
@@ -41,6 +32,14 @@ bytes_more k n b small =
     let low : (n * 256 + b) % 256 ≡ b = omega arith in
     let high : (n * 256 + b) / 256 ≡ n = omega arith in
     ap (λ w. bytes_of w (n * 256 + b)) e ∙ ap (λ x. x ∷ bytes_of k ((n * 256 + b) / 256)) low ∙ ap (λ m. b ∷ bytes_of k m) high
+
+pub bytes_back : (bs : List ℕ) → ((i : ℕ) → get_or bs i 0 < 256) → bytes_of (length bs) (number bs) ≡ bs
+unfolding number bytes_of
+bytes_back [] fit = refl
+bytes_back (b ∷ bs) fit =
+    let count : suc (length bs) ≡ length bs + 1 = omega arith in
+    let value : b + 256 * number bs ≡ number bs * 256 + b = omega arith in
+    ap₂ (λ (w n : ℕ). bytes_of w n) count value ∙ bytes_more (length bs) (number bs) b (fit 0) ∙ ap (λ (xs : List ℕ). b ∷ xs) (bytes_back bs (λ i. fit (suc i)))
 
 -- zeros behind the bytes count for nothing
 number_zeros : (n : ℕ) → number (replicate n 0) ≡ 0

@@ -11,7 +11,9 @@ const NAME: &str = "options_tests_input";
 
 // More bytes than one piece has, no two neighbours alike.
 fn sent(heap: Global) -> Result<Vec<u8>, Fail> {
-    let bytes: Vec<u8> = (0..9000u32).map(|place| (place % 251) as u8).collect(heap)?;
+    let bytes: Vec<u8> = (0..70000u32)
+        .map(|place| (place % 251) as u8)
+        .collect(heap)?;
     Ok(bytes)
 }
 

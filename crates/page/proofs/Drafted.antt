@@ -1,19 +1,20 @@
 -- Laws of a draft: its beginning, one pair more, what a key and what a number of the wire adds, and its frame.
-use Rattle.std.proofs.Common.{◌≡◌, ℕ, suc, ◌+◌, ◌-◌, ◌*◌, ◌<◌, ◌≤◌, Bool, true, false, cond, List, [], ◌∷◌, ◌++◌, length, get_or, take, drop, Some, None, Ok, Err, Option, Result, sym, refl, ap, ◌∙◌, ap₂, append_assoc, append-nil, arith}
-use Rattle.std.proofs.lemmas.List.{take_all, drop_all, drop_more}
+use Rattle.std.proofs.Common.{◌≡◌, ℕ, suc, ◌+◌, ◌-◌, ◌*◌, ◌<◌, ◌≤◌, List, [], ◌∷◌, ◌++◌, map, length, get_or, take, drop, Some, None, Ok, Err, Option, Result, sym, refl, ap, ◌∙◌, ap₂, append_assoc, append-nil, arith}
+use Rattle.std.proofs.lemmas.List.{take_all, drop_all}
 use Rattle.frame.specs.Frames.{frame_bytes, carrying}
 use Rattle.item.specs.declared.selector.Selector.{Selector}
-use Rattle.item.specs.Selectors.{names}
 use Rattle.item.specs.Values.{number}
 use Rattle.layer.specs.declared.setting.Setting.{Setting}
 use Rattle.layer.specs.Settings.{setting, value_under}
 use Rattle.catalogue.specs.declared.entries.Entry.{Entry}
+use Rattle.catalogue.specs.Catalogues.{blank, key_at, named_from}
 use Rattle.reference.specs.declared.refusal.Refusal.{Refusal}
 use Rattle.reference.specs.Requests.{configuration_class, valget, ok_map, keys_named, keys_of}
 use Rattle.reference.specs.Receiver.{pair_under, held_pairs, pair_bytes, pairs_bytes, position_of, page_pairs, page}
 use Rattle.page.specs.declared.draft.Draft.{Draft}
 use Rattle.page.specs.Drafts.{payload_of, finished, finished_by}
 use Rattle.page.specs.Pages.{page_frame}
+use Rattle.request.proofs.Named.{keys_named_lem}
 use Rattle.page.specs.Walks.{keys_behind}
 
 -- The beginning
@@ -83,28 +84,18 @@ pub held_none : (ss : List Setting) (k : ℕ) (d : Draft) → None ≡ value_und
 unfolding held_pairs
 held_none ss k d h ks = ap (λ (o : Option ℕ). finished d (pair_under k o (held_pairs ss ks))) h
 
--- What a number of the wire adds, entry by entry
+-- What a number of the wire adds, item by item
 
-module _ (ss : List Setting) (es : List Entry) (s : Selector) (i : ℕ) (x : Entry) (lt : i < length es) where
-  named_at : (d : Draft) (ks : List ℕ) → finished_by ss d (cond (names s (get_or es i x).key) ((get_or es i x).key ∷ keys_named s (drop (i + 1) es)) (keys_named s (drop (i + 1) es)) ++ ks)
-      ≡ finished_by ss d (keys_named s (drop i es) ++ ks)
-  unfolding keys_named
-  named_at d ks = ap (λ (l : List Entry). finished_by ss d (keys_named s l ++ ks)) (sym (drop_more es i x lt))
+pub named_more : (ss : List Setting) (es : List Entry) (s : Selector) (from i : ℕ) (d e : Draft) → named_from s from es ≡ i ∷ named_from s (i + 1) es
+    → ((ks : List ℕ) → finished_by ss e ks ≡ finished_by ss d ((get_or es i blank).key ∷ ks))
+    → (ks : List ℕ) → finished_by ss e (keys_named s (drop (i + 1) es) ++ ks) ≡ finished_by ss d (keys_named s (drop from es) ++ ks)
+named_more ss es s from i d e h step ks =
+    let keys : keys_named s (drop from es) ≡ key_at es i ∷ keys_named s (drop (i + 1) es) =
+    keys_named_lem s es from ∙ ap (map (key_at es)) h ∙ ap (λ (js : List ℕ). key_at es i ∷ js) (sym (keys_named_lem s es (i + 1))) in
+    step (keys_named s (drop (i + 1) es) ++ ks) ∙ ap (λ (js : List ℕ). finished_by ss d (js ++ ks)) (sym keys)
 
-  pub named_more : (d e : Draft) → true ≡ names s (get_or es i x).key → ((ks : List ℕ) → finished_by ss e ks ≡ finished_by ss d ((get_or es i x).key ∷ ks))
-      → (ks : List ℕ) → finished_by ss e (keys_named s (drop (i + 1) es) ++ ks) ≡ finished_by ss d (keys_named s (drop i es) ++ ks)
-  named_more d e is step ks =
-      step (keys_named s (drop (i + 1) es) ++ ks)
-      ∙ ap (λ (b : Bool). finished_by ss d (cond b ((get_or es i x).key ∷ keys_named s (drop (i + 1) es)) (keys_named s (drop (i + 1) es)) ++ ks)) is
-      ∙ named_at d ks
-
-  pub named_less : (d : Draft) → false ≡ names s (get_or es i x).key → (ks : List ℕ) → finished_by ss d (keys_named s (drop (i + 1) es) ++ ks) ≡ finished_by ss d (keys_named s (drop i es) ++ ks)
-  named_less d is ks =
-      ap (λ (b : Bool). finished_by ss d (cond b ((get_or es i x).key ∷ keys_named s (drop (i + 1) es)) (keys_named s (drop (i + 1) es)) ++ ks)) is ∙ named_at d ks
-
-pub named_end : (ss : List Setting) (es : List Entry) (s : Selector) (i : ℕ) (d : Draft) → length es ≤ i → (ks : List ℕ) → finished_by ss d ks ≡ finished_by ss d (keys_named s (drop i es) ++ ks)
-unfolding keys_named
-named_end ss es s i d done ks = ap (λ (l : List Entry). finished_by ss d (keys_named s l ++ ks)) (sym (drop_all i es done))
+pub named_all : (ss : List Setting) (es : List Entry) (s : Selector) (from : ℕ) (d : Draft) → named_from s from es ≡ [] → (ks : List ℕ) → finished_by ss d ks ≡ finished_by ss d (keys_named s (drop from es) ++ ks)
+named_all ss es s from d h ks = ap (λ (js : List ℕ). finished_by ss d (js ++ ks)) (sym (keys_named_lem s es from ∙ ap (map (key_at es)) h))
 
 -- The frame
 

@@ -216,7 +216,7 @@ module _ (cat : Catalogue) (rule : Finding) (s : State) (m : Message) where
   no_reply_at (suc (suc zero)) bs e = let x = and_then_ok (data_of cat m.id m.payload) _ (reply bs) e in let no = x.2 in cc
   no_reply_at (suc (suc (suc n))) bs e = let no = only_applies _ _ _ (reply bs) e in cc
 
-  change_no_reply : (bs : List ℕ) → GrantedChange (reply bs) → ⊥
+  pub change_no_reply : (bs : List ℕ) → GrantedChange (reply bs) → ⊥
   change_no_reply bs g = no_reply_at action bs g.plan_is
 
   -- so a reply is a granted VALGET's

@@ -2,6 +2,7 @@ pub mod Faults
 pub mod Heads
 pub mod Joined
 pub mod Keys
+pub mod Named
 pub mod PairBytes
 pub mod Pairs
 pub mod Removals

@@ -1,5 +1,5 @@
 -- The items that a key or selector names, removed one after the other.
-use Rattle.std.proofs.Common.{◌≡◌, ℕ, ◌+◌, ◌<◌, ◌≤◌, Bool, true, false, cond, List, [], ◌∷◌, map, length, get_or, take, drop, set, Some, None, Ok, Err, Option, Result, sym, refl, ap, ◌∙◌, get_or-set_other, arith}
+use Rattle.std.proofs.Common.{◌≡◌, ℕ, ◌+◌, ◌<◌, ◌≤◌, Bool, true, false, cond, List, [], ◌∷◌, map, length, get_or, take, drop, set, Some, None, Ok, Err, Option, Result, sym, refl, ap, ◌∙◌, subst, get_or-set_other, arith}
 use Rattle.std.proofs.lemmas.List.{drop_more, drop_all}
 use Rattle.std.proofs.lemmas.Bool.{lt-ltb, le-ltb}
 use Rattle.std.proofs.lemmas.Bool.Decides.{nat_tests}
@@ -7,7 +7,7 @@ use Rattle.item.specs.declared.selector.Selector.{Selector}
 use Rattle.item.specs.Selectors.{selector_of, names}
 use Rattle.item.specs.Values.{number}
 use Rattle.catalogue.specs.declared.entries.Entry.{Entry}
-use Rattle.catalogue.specs.Catalogues.{Listed, blank}
+use Rattle.catalogue.specs.Catalogues.{Listed, blank, key_at, named}
 use Rattle.reference.specs.Requests.{Data, Changes, cut, read, read_map, keys_named, named_read, deleted, key_read, deletion_read, latest, and_later}
 use Rattle.request.specs.declared.change.Change.{Change}
 use Rattle.request.specs.declared.change.Change.TheVariants.{Remove}
@@ -16,6 +16,7 @@ use Rattle.request.specs.declared.data.EntryFault.TheVariants.{Cut, Unknown}
 use Rattle.request.specs.Changes.{changes_by}
 use Rattle.request.specs.Keys.{key_in}
 use Rattle.request.specs.Reading.{over, Within, SameBehind, Taken}
+use Rattle.request.proofs.Named.{keys_named_lem}
 use Rattle.request.proofs.Settled.{over_append, over_one, over_nil}
 
 -- what is still to be removed, from an item on
@@ -28,9 +29,6 @@ pub record Removing (es : List Entry) (s : Selector) (before slots : List (Optio
   pub some : named ≡ true → 0 < length (keys_named s es)
   pub none : named ≡ false → keys_named s (drop i es) ≡ keys_named s es
   pub behind : SameBehind (length es) before slots
-
-abbrev key_at : List Entry → ℕ → ℕ
-key_at es i = (get_or es i blank).key
 
 keys_left : (s : Selector) (es : List Entry) (i : ℕ) → i < length es
     → keys_named s (drop i es) ≡ cond (names s (key_at es i)) (key_at es i ∷ keys_named s (drop (i + 1) es)) (keys_named s (drop (i + 1) es))
@@ -129,3 +127,8 @@ removal_taken es bs before after k r e t =
       within = within_more 4 (length bs) r long t.within;
       behind = t.behind;
     }
+
+-- what is removed, by the places that are named
+pub taken_places : (es : List Entry) (s : Selector) (before after : List (Option Change)) (r : Result ℕ EntryFault)
+    → Taken es (read_map (map deleted) (named_read (keys_named s es))) 4 before after r → Taken es (read_map (map deleted) (named_read (map (key_at es) (named s 0 es)))) 4 before after r
+taken_places es s before after r t = subst (λ (ks : List ℕ). Taken es (read_map (map deleted) (named_read ks)) 4 before after r) (keys_named_lem s es 0) t

@@ -1,5 +1,6 @@
 // The walk over the data of a set or delete: pairs of key and value, or keys and selectors, from byte 4 on and at most 64.
 ghost use Rattle.std.specs.Prelude.{◌≡◌, ◌≤◌, ℕ, map, length, replicate, slice_index_or, IfErr};
+ghost use Rattle.catalogue.specs.Catalogues.{key_at, named};
 ghost use Rattle.catalogue.specs.Owned.{entries_of};
 ghost use Rattle.item.specs.Selectors.{selector_of};
 ghost use Rattle.reference.specs.Requests.{read_map, pair_read, deletion_read, keys_named, named_read, deleted, latest, ok_map, data_of};
@@ -82,7 +83,8 @@ impl ItemChanges {
 
     // Removes each item that a key or selector names, and refuses one that names none; answers the bytes of a key or selector.
     fn remove_named(&mut self, catalogue: &Catalogue, number: u32) -> Result<usize, EntryFault>
-        ensures { Taken (entries_of catalogue.now) (read_map (map deleted) (named_read (keys_named (selector_of number) (entries_of catalogue.now)))) 4 (slots_of self.old) (slots_of self.new) result }
+        ensures taken { Taken (entries_of catalogue.now) (read_map (map deleted) (named_read (keys_named (selector_of number) (entries_of catalogue.now)))) 4 (slots_of self.old) (slots_of self.new) result }
+        ensures places { Taken (entries_of catalogue.now) (read_map (map deleted) (named_read (map (key_at (entries_of catalogue.now)) (named (selector_of number) 0 (entries_of catalogue.now))))) 4 (slots_of self.old) (slots_of self.new) result }
     {
         let selector = Selector::from(number);
         // kept: a flag, since the walk that removes sees whether any is named; asked in front, the entries would be walked twice

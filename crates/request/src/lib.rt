@@ -4,6 +4,7 @@
 // changes.rt  what becomes of each item
 // action.rt   what a request does with its data
 // key.rt      the key at a place of a payload
+// pair.rt     a pair of key and value, written
 // head.rt     a request, its head and the checks of it
 // data.rt     the walk over the data of a set or delete
 #![tactic(auto)]
@@ -14,6 +15,7 @@ mod changes;
 mod data;
 mod head;
 mod key;
+mod pair;
 
 pub use action::Action;
 pub use change::Change;
@@ -24,3 +26,4 @@ pub use head::{
     is_request, same_layers,
 };
 pub use key::key_at;
+pub use pair::{PAIR_ROOM, write_pair};

@@ -60,12 +60,7 @@ impl<'a, W: Write> Session<'a, W> {
 
     fn obey(&mut self, number: usize, command: Command) -> anyhow::Result<()> {
         match (command, &mut self.steps) {
-            (Command::New, _) => {
-                self.finish()?;
-                self.host.forget();
-                self.setup = Setup::new(self.heap);
-                Ok(())
-            }
+            (Command::New, _) => self.begin_anew(),
             (Command::SetUp(part), None) => self.set_up(part),
             (Command::Make, None) => self.make(),
             (Command::Call(call), Some(steps)) => Ok(steps.push(Step::Call(call))?),
@@ -80,6 +75,16 @@ impl<'a, W: Write> Session<'a, W> {
             (Command::Call(_), None) => self.refuse(number, LineFault::CallBeforeMake),
             (_, Some(_)) => self.refuse(number, LineFault::SetUpAfterMake),
         }
+    }
+
+    // Forgets the receiver, its set-up and the host's transaction.
+    fn begin_anew(&mut self) -> anyhow::Result<()> {
+        match self.steps {
+            Some(_) => self.finish()?,
+            None => self.setup.begin_anew(self.heap),
+        }
+        self.host.forget();
+        Ok(())
     }
 
     // A host does what it is told at once.
@@ -153,7 +158,7 @@ impl<'a, W: Write> Session<'a, W> {
         Ok(())
     }
 
-    // Replays the calls behind make, and answers their lines. Where there is no make, there is nothing left to answer.
+    // Replays the calls behind make, and answers their lines; another set-up begins. Where there is no make, there is nothing to answer.
     pub fn finish(&mut self) -> anyhow::Result<()> {
         let Some(steps) = self.steps.take() else {
             return Ok(());
@@ -177,17 +182,15 @@ fn answer_steps<W: Write>(
     setup: Setup,
     steps: &[Step],
 ) -> anyhow::Result<()> {
-    let Setup {
-        entries,
-        needs,
-        bbr,
-        flash,
-    } = setup;
-    let rule = rule_of(needs.as_slice());
     let calls = calls_of(heap, steps)?;
     let wanted = wanted_of(heap, steps)?;
     let mut seen = SeenWords::new(heap, wanted.as_slice());
-    let parts = Parts { bbr, flash, rule };
+    let entries = setup.entries;
+    let parts = Parts {
+        rule: rule_of(setup.needs.as_slice()),
+        bbr: setup.bbr,
+        flash: setup.flash,
+    };
     let replayed = replay_watched(heap, entries.as_slice(), parts, calls.as_slice(), &mut seen)?;
     print_steps(out, steps, replayed.log.as_slice(), seen.words())
 }

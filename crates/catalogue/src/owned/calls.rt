@@ -1,10 +1,10 @@
 // Copying a catalogue, lending its entries, and finding an item.
-ghost use Rattle.std.specs.Prelude.{◌≡◌, ◌≤◌, true, length, is_ok};
-ghost use Rattle.catalogue.specs.Catalogues.{entries_checked, Listed, FirstWith};
+ghost use Rattle.std.specs.Prelude.{◌≡◌, ◌≤◌, true, length, is_ok, Ok, Err, MatchResult};
+ghost use Rattle.catalogue.specs.Catalogues.{entries_checked, catalogue_checked, Listed, FirstWith};
 ghost use Rattle.catalogue.specs.Owned.{entries_of, accepted_entries};
 
 use super::Catalogue;
-use crate::entries::{Entry, check_catalogue};
+use crate::entries::{CatalogueFault, Entry, check_catalogue};
 use arrayvec::ArrayVec;
 
 impl Catalogue {
@@ -17,6 +17,14 @@ impl Catalogue {
         let mut copy = ArrayVec::new();
         copy.try_extend_from_slice(entries).unwrap();
         Catalogue { entries: copy }
+    }
+
+    // A copy of the entries, or why the check refuses them.
+    pub fn checked(entries: &[Entry]) -> Result<Catalogue, CatalogueFault>
+        ensures { MatchResult result (λ c. (catalogue_checked entries.now ≡ Ok tt) × (entries_of c ≡ entries.now)) (λ f. catalogue_checked entries.now ≡ Err f) }
+    {
+        check_catalogue(entries)?;
+        Ok(Catalogue::copied(entries))
     }
 
     // A copy of the entries; of none where the check refuses them.

@@ -10,9 +10,9 @@ ghost use Rattle.page.specs.Drafts.{payload_of, finished, finished_by};
 use super::Draft;
 use crate::pair::Pair;
 use arrayvec::ArrayVec;
-use catalogue::Entry;
-use item::{Selector, size_of};
+use catalogue::{Entry, next_named};
 use layer::{Layer, Setting};
+use request::{PAIR_ROOM, write_pair};
 
 // The version of a reply.
 const REPLY_VERSION: u8 = 1;
@@ -48,22 +48,17 @@ impl Draft {
         self.bytes.as_slice()
     }
 
-    // Writes a pair behind the others: the key, then as many bytes of the value as its size has.
-    #[tactic(auto, using(crate::proofs::Pairs::has_size, crate::proofs::Pairs::width_few, request::proofs::PairBytes::pair_stands))]
+    // Writes a pair behind the others.
+    #[tactic(auto, using(crate::proofs::Pairs::setting_fits, request::proofs::PairBytes::pair_few, request::proofs::PairBytes::pair_taken))]
     fn put(&mut self, pair: &Pair)
         requires room { 0 < self.old.left }
         ensures after { payload_of self.new ≡ payload_of self.old ++ pair_bytes pair.now.setting }
         ensures left { self.new.left ≡ self.old.left - 1 }
         ensures skip { self.new.skip ≡ self.old.skip }
     {
-        let Setting { key, value } = pair.setting;
-        let width = size_of(key).unwrap().width();
-        self.bytes
-            .try_extend_from_slice(&key.to_le_bytes())
-            .unwrap();
-        self.bytes
-            .try_extend_from_slice(&value.to_le_bytes()[0..width])
-            .unwrap();
+        let mut bytes = [0; PAIR_ROOM];
+        let count = write_pair(&mut bytes, pair.setting).unwrap();
+        self.bytes.try_extend_from_slice(&bytes[..count]).unwrap();
         self.left -= 1;
     }
 
@@ -92,14 +87,15 @@ impl Draft {
     }
 
     // Adds what a layer holds under the keys that a number of the wire names.
+    // kept: the walk of the catalogue, asked again from the place behind its answer; a `for` over the entries that asks each whether it is named takes twice
+    // as long for a key
     pub(crate) fn add_named<L: Layer>(&mut self, entries: &[Entry], layer: &L, number: u32)
         ensures { (ks : List ℕ) → finished_by (L.Layer.settings layer.now) self.new ks ≡ finished_by (L.Layer.settings layer.now) self.old (keys_named (selector_of number) entries.now ++ ks) }
     {
-        let selector = Selector::from(number);
-        for entry in entries {
-            if selector.names(entry.key) {
-                self.add_held(layer, entry.key);
-            }
+        let mut from = 0;
+        while let Some(item) = next_named(entries, number, from) {
+            self.add_held(layer, entries[item].key);
+            from = item + 1;
         }
     }
 }

@@ -1,5 +1,5 @@
 use Rattle.request.proofs.Slots.{slots_long}
-use Rattle.request.proofs.Removals.{removing_named, removing_past, removing_end, removing_none}
+use Rattle.request.proofs.Removals.{removing_named, removing_past, removing_end, removing_none, taken_places}
 use Rattle.request.proofs.changes.ItemChanges.remove_named.Goals as goal
 use Rattle.request.proofs.changes.ItemChanges.remove_named.Goals.{then-names, else-names}
 
@@ -15,12 +15,18 @@ loop-item-preserved c =
       | else-names w ↦ rw (w.self-is, w.named-is) (removing_past _ _ _ _ _ _ c.loop-item.invariant lt (rw items.value at w.if-names.ensures))
     ]
 
-pub returns-then-named : goal.returns-then-named
-returns-then-named c =
+pub returns-then-named-clause-taken : goal.returns-then-named-clause-taken
+returns-then-named-clause-taken c =
     removing_end _ _ _ _ _ _ (rw c.from-selector.ensures.value at c.loop-item.invariant)
     (rw c.entries-entry-items.ensures.value at c.loop-item-test.false) c.if-named.true
 
-pub returns-else-named : goal.returns-else-named
-returns-else-named c =
+pub returns-else-named-clause-taken : goal.returns-else-named-clause-taken
+returns-else-named-clause-taken c =
     removing_none _ _ _ _ _ _ (rw c.from-selector.ensures.value at c.loop-item.invariant)
     (rw c.entries-entry-items.ensures.value at c.loop-item-test.false) c.if-named.false
+
+pub returns-then-named-clause-places : goal.returns-then-named-clause-places
+returns-then-named-clause-places c = taken_places _ _ _ _ _ (returns-then-named-clause-taken c)
+
+pub returns-else-named-clause-places : goal.returns-else-named-clause-places
+returns-else-named-clause-places c = taken_places _ _ _ _ _ (returns-else-named-clause-taken c)
